@@ -1,0 +1,15 @@
+use borrow.Author.Needs.{needs}
+use mathlib.Core.Path.{refl}
+use Rattle.device.specs.Bytes.{highOf}
+use Rattle.device.proofs.address.high.Statement.{statement}
+use Rattle.device.proofs.address.high.Tie as tie
+use Rattle.device.proofs.address.high.Reads as reads
+use Rattle.device.proofs.address.high.Lts as lts
+
+-- src/address.rt:81:1
+returns : tie.Need-returns
+unfolding highOf
+returns c = refl
+
+pub high-spec : {M : Type 1} → statement M
+high-spec = tie.close (tie.spec returns)

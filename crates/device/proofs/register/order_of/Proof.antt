@@ -1,0 +1,70 @@
+use borrow.Author.Needs.{needs}
+use borrow.Author.Tests.{eq-eqb, ne-eqb}
+use Rattle.device.specs.Register.{orderOf}
+use Rattle.device.proofs.register.order_of.Statement.{statement}
+use Rattle.device.proofs.register.order_of.Tie as tie
+use Rattle.device.proofs.register.order_of.Reads as reads
+use Rattle.device.proofs.register.order_of.Lts as lts
+
+-- src/register.rt:50:25
+returns : tie.Need-returns
+unfolding orderOf
+returns c =
+    rw (c .before .before .before .before .before .if1 .taken, c .before .before .before .before .if2 .taken, eq-eqb _ _ (c .before .before .before .if3 .taken), c .before .before .if4 .taken, eq-eqb _ _ (c .if5 .taken))
+
+-- src/register.rt:52:21
+returns-2 : tie.Need-returns-2
+unfolding orderOf
+returns-2 c =
+    rw (c .before .before .before .before .before .if1 .taken, c .before .before .before .before .if2 .taken, eq-eqb _ _ (c .before .before .before .if3 .taken), c .before .before .if4 .taken, ne-eqb _ _ (c .if5 .left))
+
+-- src/register.rt:54:17
+returns-3 : tie.Need-returns-3
+unfolding orderOf
+returns-3 c =
+    rw (c .before .before .before .if1 .taken, c .before .before .if2 .taken, eq-eqb _ _ (c .before .if3 .taken), c .if4 .left)
+
+-- src/register.rt:56:13
+returns-4 : tie.Need-returns-4
+unfolding orderOf
+returns-4 c = rw (c .before .before .if1 .taken, c .before .if2 .taken, ne-eqb _ _ (c .if3 .left))
+
+-- src/register.rt:58:9
+returns-5 : tie.Need-returns-5
+unfolding orderOf
+returns-5 c = rw (c .before .before .if1 .taken, c .before .if2 .left, c .match .keys1)
+
+-- src/register.rt:58:9
+returns-6 : tie.Need-returns-6
+unfolding orderOf
+returns-6 c = rw (c .before .before .if1 .taken, c .before .if2 .left, c .match .keys2)
+
+-- src/register.rt:58:9
+returns-7 : tie.Need-returns-7
+unfolding orderOf
+returns-7 c = rw (c .before .before .if1 .taken, c .before .if2 .left, c .match .keys3)
+
+-- src/register.rt:58:9
+returns-8 : tie.Need-returns-8
+unfolding orderOf
+returns-8 c =
+    rw (c .before .before .if1 .taken, c .before .if2 .left, ne-eqb _ _ (c .match .rest .0 .0 .1), ne-eqb _ _ (c .match .rest .0 .1), ne-eqb _ _ (c .match .rest .1))
+
+-- src/register.rt:41:1
+returns-9 : tie.Need-returns-9
+unfolding orderOf
+returns-9 c = rw (c .if1 .left)
+
+pub order-of-spec : {M : Type 1} → statement M
+order-of-spec =
+    tie.close
+    (tie.spec
+    returns
+    returns-2
+    returns-3
+    returns-4
+    returns-5
+    returns-6
+    returns-7
+    returns-8
+    returns-9)

@@ -1,0 +1,4 @@
+pub mod Register
+pub mod Talk
+pub mod Bytes
+pub mod Ends

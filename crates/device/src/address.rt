@@ -1,0 +1,128 @@
+// The slave byte and the two address bytes.
+use part::kinds::Kind;
+use part::page;
+use part::state::BusAddress;
+use part::state::Control;
+use part::state::Device;
+use part::state::Phase;
+use part::state::Talk;
+ghost use mathlib.Core.Path.{_≡_};
+ghost use mathlib.Core.Bool.{Bool};
+ghost use Rattle.device.specs.Talk.{withTalk, withChosen, turned, acknowledged, matches, addressOf};
+ghost use Rattle.device.specs.Bytes.{slaveOf, highOf, lowOf};
+
+pub const REGISTER_ADDRESS: u16 = 0xffff;
+
+// The next phase, SDA as it was.
+pub fn turn(phase: Phase, t: Talk) -> Talk
+    ensures { λ r. ⌜ r ≡ turned phase t ⌝ }
+{
+    Talk {
+        phase,
+        high: t.high,
+        out: t.out,
+        own: t.own,
+    }
+}
+
+// The next phase, SDA pulled low.
+pub fn acknowledge(phase: Phase, t: Talk) -> Talk
+    ensures { λ r. ⌜ r ≡ acknowledged phase t ⌝ }
+{
+    Talk {
+        phase,
+        high: t.high,
+        out: t.out,
+        own: false,
+    }
+}
+
+pub fn choose(c: Control, chosen: bool) -> Control
+    ensures { λ r. ⌜ r ≡ withChosen c chosen ⌝ }
+{
+    let mut next = c;
+    next.chosen = chosen;
+    next
+}
+
+// Whether a slave byte names this part.
+fn is_ours(select: u8, v: u8) -> bool
+    ensures { λ r. ⌜ r ≡ matches select v ⌝ }
+{
+    if v / 8 == 20 {
+        v / 2 % 4 == select
+    } else {
+        false
+    }
+}
+
+pub fn slave(select: u8, d: Device, v: u8) -> Device
+    ensures { λ r. ⌜ r ≡ slaveOf select d v ⌝ }
+{
+    let talk = d.talk;
+    let control = d.control;
+    let mut next = d;
+    if is_ours(select, v) {
+        if v % 2 == 1 {
+            if control.chosen {
+                let t = acknowledge(Phase::SendRegister, talk);
+                next.talk = t;
+                return next;
+            }
+            let t = acknowledge(Phase::Send, talk);
+            next.talk = t;
+            return next;
+        }
+        let t = acknowledge(Phase::High, talk);
+        next.talk = t;
+        return next;
+    }
+    let t = turn(Phase::Silent, talk);
+    next.talk = t;
+    next
+}
+
+pub fn high(d: Device, v: u8) -> Device
+    ensures { λ r. ⌜ r ≡ highOf d v ⌝ }
+{
+    let talk = d.talk;
+    let t = Talk {
+        phase: Phase::Low,
+        high: v,
+        out: talk.out,
+        own: false,
+    };
+    let mut next = d;
+    next.talk = t;
+    next
+}
+
+fn address(high: u8, low: u8) -> BusAddress
+    ensures { λ r. ⌜ r .0 ≡ addressOf high low ⌝ }
+{
+    BusAddress((high as u16) * 256 + (low as u16))
+}
+
+// The address is whole: it chooses the register, or sets the counter.
+pub fn low(kind: Kind, d: Device, v: u8) -> Device
+    ensures { λ r. ⌜ r ≡ lowOf kind d v ⌝ }
+{
+    let talk = d.talk;
+    let control = d.control;
+    let a = address(talk.high, v);
+    let mut next = d;
+    if a.0 == REGISTER_ADDRESS {
+        let t = acknowledge(Phase::Register, talk);
+        let c = choose(control, true);
+        next.talk = t;
+        next.control = c;
+        return next;
+    }
+    let t = acknowledge(Phase::Data, talk);
+    let c = choose(control, false);
+    let p = page::place_of(kind, a);
+    next.talk = t;
+    next.counter = p;
+    next.control = c;
+    next
+}

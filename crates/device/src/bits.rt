@@ -1,0 +1,136 @@
+// A bit below the eighth, and the ninth.
+use crate::address;
+use crate::register;
+use part::kinds::Kind;
+use part::page;
+use part::state::Device;
+use part::state::Phase;
+use part::state::Talk;
+ghost use mathlib.Core.Path.{_≡_};
+ghost use mathlib.Core.Bool.{Bool};
+ghost use Rattle.device.specs.Talk.{withTalk, released, sending, rested};
+ghost use Rattle.device.specs.Bytes.{nextBit, bitOf, fetch, fetchRegister, answeredBy, ninthOf};
+
+fn release(t: Talk) -> Talk
+    ensures { λ r. ⌜ r ≡ released t ⌝ }
+{
+    let mut next = t;
+    next.own = true;
+    next
+}
+
+// A byte is being sent: its highest bit is out.
+pub fn send(v: u8, t: Talk) -> Talk
+    ensures { λ r. ⌜ r ≡ sending v t ⌝ }
+{
+    let mut next = t;
+    next.out = v;
+    let own = v / 128 % 2 == 1;
+    next.own = own;
+    next
+}
+
+// Nothing is being sent, SDA is released.
+pub fn rest(phase: Phase, t: Talk) -> Talk
+    ensures { λ r. ⌜ r ≡ rested phase t ⌝ }
+{
+    Talk {
+        phase,
+        high: t.high,
+        out: 0,
+        own: true,
+    }
+}
+
+fn next_bit(d: Device) -> Device
+    ensures { λ r. ⌜ r ≡ nextBit d ⌝ }
+{
+    let talk = d.talk;
+    let v = ((talk.out as u16) * 2 % 256) as u8;
+    let t = send(v, talk);
+    let mut next = d;
+    next.talk = t;
+    next
+}
+
+// The device after a bit below the eighth.
+pub fn bit(d: Device) -> Device
+    ensures { λ r. ⌜ r ≡ bitOf d ⌝ }
+{
+    let talk = d.talk;
+    let phase = talk.phase;
+    match phase {
+        Phase::Send => next_bit(d),
+        Phase::SendRegister => next_bit(d),
+        Phase::Idle => d,
+        Phase::Silent => d,
+        Phase::Slave => d,
+        Phase::High => d,
+        Phase::Low => d,
+        Phase::Data => d,
+        Phase::Register => d,
+    }
+}
+
+fn heard(d: Device) -> Device
+    ensures { λ r. ⌜ r ≡ withTalk d (released (d .talk)) ⌝ }
+{
+    let talk = d.talk;
+    let t = release(talk);
+    let mut next = d;
+    next.talk = t;
+    next
+}
+
+fn send_array(kind: Kind, array: &[u8], b: bool, d: Device) -> Device
+    ensures { λ r. ⌜ r ≡ answeredBy b (fetch kind (now (array .entry)) d) d ⌝ }
+{
+    let talk = d.talk;
+    let mut next = d;
+    if b {
+        let t = address::turn(Phase::Silent, talk);
+        next.talk = t;
+        return next;
+    }
+    let v = page::fetched(array, d.counter);
+    let t = send(v, talk);
+    let p = page::next_in_array(kind, d.counter);
+    next.talk = t;
+    next.counter = p;
+    next
+}
+
+fn send_register(b: bool, d: Device) -> Device
+    ensures { λ r. ⌜ r ≡ answeredBy b (fetchRegister d) d ⌝ }
+{
+    let talk = d.talk;
+    let mut next = d;
+    if b {
+        let t = address::turn(Phase::Silent, talk);
+        next.talk = t;
+        return next;
+    }
+    let v = register::reads(d.control);
+    let t = send(v, talk);
+    next.talk = t;
+    next
+}
+
+// The device after a ninth bit.
+pub fn ninth(kind: Kind, array: &[u8], b: bool, d: Device) -> Device
+    ensures { λ r. ⌜ r ≡ ninthOf kind (now (array .entry)) b d ⌝ }
+{
+    let talk = d.talk;
+    let phase = talk.phase;
+    match phase {
+        Phase::Idle => d,
+        Phase::Silent => d,
+        Phase::Slave => heard(d),
+        Phase::High => heard(d),
+        Phase::Low => heard(d),
+        Phase::Data => heard(d),
+        Phase::Register => heard(d),
+        Phase::Send => send_array(kind, array, b, d),
+        Phase::SendRegister => send_register(b, d),
+    }
+}

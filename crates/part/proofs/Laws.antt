@@ -1,0 +1,82 @@
+-- Laws of the tables and of the page load that several proofs cite. Assumes nothing.
+use Prim.Native.Nat.{ℕ, zero, suc, _-_, _<_, _≤_}
+use mathlib.Core.Bool.{Bool, true, false}
+use mathlib.Core.List.{List, [], _∷_, _++_, append-nil}
+use mathlib.Core.Path.{_≡_, refl, ap, sym, subst, _∙_}
+use native.Mathlib.Omega.{arith}
+use lib.ListN.{length, getD, take, drop, set, length-drop, take-append-drop, drop-of-length-le, List·getD-eq-default}
+use lib.Seq.{drop-cons, take-all}
+use Rattle.part.specs.Cases.{some}
+use Rattle.part.specs.Lock.{extentOf, extentTable, firstPages}
+use Rattle.part.specs.Page.{putOf, oneOf, layOf}
+use Rattle.part.specs.declared.kinds.Kind.{Kind}
+
+-- The codes 0 to 2 lock nothing.
+pub code-none : (k : Kind) (n : ℕ) → n < 3 → extentOf k n ≡ firstPages 0
+unfolding extentOf
+code-none k zero h = refl
+code-none k (suc zero) h = refl
+code-none k (suc (suc zero)) h = refl
+code-none k (suc (suc (suc n))) h = absurd (omega arith)
+
+-- No code beyond 7 locks anything.
+pub code-beyond : (k : Kind) (n : ℕ) → 8 ≤ n → extentOf k n ≡ firstPages 0
+unfolding extentOf
+code-beyond k n h = List·getD-eq-default (extentTable k) (firstPages 0) h
+
+-- A mark at an index decides `some` of what starts there.
+pub some-at : (ms : List Bool) (i : ℕ) → i < length ms → getD ms i false ≡ true → some (drop i ms) ≡ true
+some-at ms i h e = rw (drop-cons ms i false h, e)
+
+pub some-past : (ms : List Bool) (i : ℕ) → i < length ms → getD ms i false ≡ false → some (drop i ms) ≡ some (drop (suc i) ms)
+some-past ms i h e = rw (drop-cons ms i false h, e)
+
+-- Nothing is laid over no bytes.
+pub lay-nil : (ms : List Bool) (bs : List ℕ) → layOf ms bs [] ≡ []
+lay-nil [] bs = refl
+lay-nil (m ∷ ms) [] = refl
+lay-nil (m ∷ ms) (b ∷ bs) = refl
+
+-- One turn of the laying: the byte at i is put, and what is left is laid from i + 1 on.
+pub lay-turn : (m : Bool) (b : ℕ) (ms : List Bool) (bs xs : List ℕ) (i : ℕ)
+    → i < length ms → i < length bs → i < length xs → getD ms i false ≡ m → getD bs i 0 ≡ b
+    → take (suc i) (putOf m b i xs) ++ layOf (drop (suc i) ms) (drop (suc i) bs) (drop (suc i) (putOf m b i xs))
+    ≡ take i xs ++ layOf (drop i ms) (drop i bs) (drop i xs)
+lay-turn m b [] bs xs i p q r e f = absurd (omega arith)
+lay-turn m b (n ∷ ms) [] xs i p q r e f = absurd (omega arith)
+lay-turn m b (n ∷ ms) (a ∷ bs) [] i p q r e f = absurd (omega arith)
+lay-turn true b (n ∷ ms) (a ∷ bs) (x ∷ xs) zero p q r e f = rw (e, f)
+lay-turn false b (n ∷ ms) (a ∷ bs) (x ∷ xs) zero p q r e f = rw e
+lay-turn true b (n ∷ ms) (a ∷ bs) (x ∷ xs) (suc i) p q r e f = ap (λ (l : List ℕ). x ∷ l) (lay-turn true b ms bs xs i (omega arith) (omega arith) (omega arith) e f)
+lay-turn false b (n ∷ ms) (a ∷ bs) (x ∷ xs) (suc i) p q r e f = ap (λ (l : List ℕ). x ∷ l) (lay-turn false b ms bs xs i (omega arith) (omega arith) (omega arith) e f)
+
+pub length-put : (m : Bool) (b i : ℕ) (xs : List ℕ) → length (putOf m b i xs) ≡ length xs
+length-put true b i xs = lib.ListN.length-set xs i b
+length-put false b i xs = refl
+
+-- A code from 3 on that is none of 3 to 7 lies beyond 7.
+pub past-seven : (n : ℕ) → 3 ≤ n → (n ≡ 3 → ⊥) → (n ≡ 4 → ⊥) → (n ≡ 5 → ⊥) → (n ≡ 6 → ⊥) → (n ≡ 7 → ⊥) → 8 ≤ n
+past-seven n h a b c d e = omega arith
+
+-- The laying is done where no byte of the page is left, and where no mark is left.
+pub lay-short : (ms : List Bool) (bs xs whole : List ℕ) (i : ℕ) → length xs ≤ i
+    → take i xs ++ layOf (drop i ms) (drop i bs) (drop i xs) ≡ whole → xs ≡ whole
+lay-short ms bs xs whole i h e =
+    sym (append-nil xs) ∙ ap (λ (l : List ℕ). xs ++ l) (sym (lay-nil (drop i ms) (drop i bs)))
+    ∙ (rw (take-all i xs h, drop-of-length-le xs h) at e)
+
+pub lay-whole : (ms : List Bool) (bs xs whole : List ℕ) (i : ℕ) → length ms ≤ i
+    → take i xs ++ layOf (drop i ms) (drop i bs) (drop i xs) ≡ whole → xs ≡ whole
+lay-whole ms bs xs whole i h e = sym (take-append-drop i xs) ∙ (rw (drop-of-length-le ms h) at e)
+
+-- A part lent from a on comes back as the whole with what was done to its tail.
+pub part-back : (f : List ℕ → List ℕ) (a : ℕ) (xs ys : List ℕ) → ys ≡ f (take (length xs - a) (drop a xs))
+    → take a xs ++ (ys ++ drop (length xs - a) (drop a xs)) ≡ take a xs ++ f (drop a xs)
+part-back f a xs ys e =
+    let h : length (drop a xs) ≤ length xs - a = simp length-drop (omega arith) in
+    let g : ys ≡ f (drop a xs) = rw (take-all (length xs - a) (drop a xs) h) at e in
+    rw (g, drop-of-length-le (drop a xs) h, append-nil)
+
+-- Nothing is laid where the page lies beyond the array.
+pub store-beyond : (ms : List Bool) (bs xs : List ℕ) (a : ℕ) → length xs ≤ a → take a xs ++ layOf ms bs (drop a xs) ≡ xs
+store-beyond ms bs xs a h = rw (take-all a xs h, drop-of-length-le xs h, lay-nil, append-nil)

@@ -1,0 +1,54 @@
+-- The numbers of document 01, each named once.
+use Prim.Native.Nat.{ℕ}
+
+-- Microseconds that a nonvolatile write takes (Bytes on the wire, stop; Control register, third step).
+abbrev pub writeTime : ℕ
+writeTime = 5000
+
+-- Microseconds that reset is held (State and time, power-up and rules 1 and 2).
+abbrev pub resetHold : ℕ
+resetHold = 200000
+
+-- The longest watchdog period, that of WD 00 (State and time, ranges and table).
+abbrev pub longWatch : ℕ
+longWatch = 1400000
+
+-- The watchdog period of WD 01 (State and time, table).
+abbrev pub middleWatch : ℕ
+middleWatch = 600000
+
+-- The watchdog period of WD 10 (State and time, table).
+abbrev pub shortWatch : ℕ
+shortWatch = 200000
+
+-- Bytes in a page (State and time, the page load).
+abbrev pub pageSize : ℕ
+pageSize = 64
+
+-- The array's size of an X4323 and an X4325 (The part on our bench).
+abbrev pub smallSize : ℕ
+smallSize = 4096
+
+-- The largest device select (Refusal numbers, 2; State and time, ranges).
+abbrev pub mostSelect : ℕ
+mostSelect = 3
+
+-- The most committed bits of a byte (State and time, ranges).
+abbrev pub mostBits : ℕ
+mostBits = 8
+
+-- The longest elapsed time of a sample (Refusal numbers, 9).
+abbrev pub mostElapsed : ℕ
+mostElapsed = 100000
+
+-- The largest level byte (Refusal numbers, 10).
+abbrev pub mostLevel : ℕ
+mostLevel = 15
+
+-- The most samples of a capture (Refusal numbers, 7).
+abbrev pub mostSamples : ℕ
+mostSamples = 65536
+
+-- The bus address that chooses the control register (Bytes on the wire, write).
+abbrev pub registerAddress : ℕ
+registerAddress = 65535

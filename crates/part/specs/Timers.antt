@@ -1,0 +1,48 @@
+-- Rules 1 and 2 of a sample (document 01, State and time).
+use Prim.Native.Nat.{ℕ, _-_, _/_, _%_}
+use mathlib.Core.Bool.{Bool, true, false}
+use mathlib.Core.List.{List, [], _∷_}
+use lib.ListN.{getD}
+use lib.Dec.{eqb}
+use Rattle.part.specs.Numbers.{resetHold, longWatch, middleWatch, shortWatch}
+use Rattle.part.specs.declared.state.Timers.{Timers}
+use Rattle.part.specs.declared.state.Watchdog.{Watchdog}
+
+-- A watchdog that runs with a time left (State and time, the start's load).
+abbrev pub runs : ℕ → Watchdog
+runs left = record { running = true; left = left }
+
+-- A watchdog that is off, with 0 left (State and time, the start's load).
+abbrev pub off : Watchdog
+off = record { running = false; left = 0 }
+
+-- What WD1 WD0 = 00, 01, 10, 11 load (State and time, the start's load).
+abbrev pub watchTable : List Watchdog
+watchTable = runs longWatch ∷ runs middleWatch ∷ runs shortWatch ∷ off ∷ []
+
+-- WD1 WD0 of a control byte, bits 6 and 5 (Control register).
+abbrev pub watchCode : ℕ → ℕ
+watchCode v = v / 32 % 4
+
+-- The watchdog as a control byte loads it (State and time, the start's load).
+unfoldable pub loadedOf : ℕ → Watchdog
+loadedOf stored = getD watchTable (watchCode stored) off
+
+-- Rule 1 by cases: reset active, low-VCC flag, hold used up, watchdog running, its time used up (State and time, 1).
+abbrev pub timedBy : Bool → Bool → Bool → Bool → Bool → Watchdog → ℕ → Timers → Timers
+timedBy true true h r u w e t = record { write = t .write - e; hold = t .hold; reset = true; low = true; watchdog = t .watchdog }
+timedBy true false false r u w e t = record { write = t .write - e; hold = t .hold - e; reset = true; low = false; watchdog = t .watchdog }
+timedBy true false true r u w e t = record { write = t .write - e; hold = 0; reset = false; low = false; watchdog = w }
+timedBy false l h false u w e t = record { write = t .write - e; hold = t .hold; reset = false; low = l; watchdog = t .watchdog }
+timedBy false l h true false w e t = record { write = t .write - e; hold = t .hold; reset = false; low = l; watchdog = runs (t .watchdog .left - e) }
+timedBy false l h true true w e t = record { write = t .write - e; hold = resetHold; reset = true; low = l; watchdog = runs 0 }
+
+-- Rule 1: the timers after an elapsed time e, with the control byte that would load the watchdog (State and time, 1).
+unfoldable pub timedOf : ℕ → ℕ → Timers → Timers
+timedOf stored e t =
+    timedBy (t .reset) (t .low) (eqb (t .hold - e) 0) (t .watchdog .running) (eqb (t .watchdog .left - e) 0) (loadedOf stored) e t
+
+-- Rule 2: good VCC clears the flag; low VCC resets with the whole hold and sets it (State and time, 2).
+unfoldable pub suppliedOf : Bool → Timers → Timers
+suppliedOf true t = record { write = t .write; hold = t .hold; reset = t .reset; low = false; watchdog = t .watchdog }
+suppliedOf false t = record { write = t .write; hold = resetHold; reset = true; low = true; watchdog = t .watchdog }

@@ -1,0 +1,30 @@
+// What kind of part a part number names.
+ghost use mathlib.Core.Path.{_≡_};
+ghost use Rattle.part.specs.Kind.{kindOf};
+
+pub const SMALL_SIZE: u16 = 4096;
+
+// The array's size in bytes and the RESET pin's active level. A size of 0 is no part.
+pub struct Kind {
+    pub size: u16,
+    pub high: bool,
+}
+
+pub fn kind_of(part: u16) -> Kind
+    ensures { λ r. ⌜ r ≡ kindOf part ⌝ }
+{
+    match part {
+        4323 => Kind {
+            size: SMALL_SIZE,
+            high: false,
+        },
+        4325 => Kind {
+            size: SMALL_SIZE,
+            high: true,
+        },
+        _ => Kind {
+            size: 0,
+            high: false,
+        },
+    }
+}

@@ -1,0 +1,118 @@
+// Power-up, and what a caller asks of a part beside replaying it.
+use crate::ranges;
+use crate::replays::Replayed;
+use crate::replays::Reply;
+use device::register as control;
+use part::kinds;
+use part::page;
+use part::state::Control;
+use part::state::Device;
+use part::state::Lines;
+use part::state::Phase;
+use part::state::Place;
+use part::state::State;
+use part::state::Talk;
+use part::state::Timers;
+use part::state::Watchdog;
+use part::state::Wire;
+use part::timers;
+ghost use mathlib.Core.Path.{_≡_};
+ghost use Rattle.twin.specs.Promises.{poweredUp, PowersUp, ReadsRegister, SizesPart};
+
+// The size of a part's array.
+pub enum Size {
+    Bytes(u32),
+    Unknown,
+}
+
+fn powered_up(part: u16, select: u8, stored: u8) -> State
+    ensures { λ r. ⌜ r ≡ poweredUp part select stored ⌝ }
+{
+    State {
+        part,
+        select,
+        timers: Timers {
+            write: 0,
+            hold: timers::RESET_HOLD,
+            reset: true,
+            low: true,
+            watchdog: Watchdog {
+                running: false,
+                left: 0,
+            },
+        },
+        wire: Wire {
+            lines: Lines {
+                scl: true,
+                sda: true,
+            },
+            frame: wire::clean(),
+        },
+        device: Device {
+            talk: Talk {
+                phase: Phase::Idle,
+                high: 0,
+                out: 0,
+                own: true,
+            },
+            counter: Place(0),
+            control: Control {
+                stored,
+                wel: false,
+                rwel: false,
+                chosen: false,
+                pending: false,
+                value: 0,
+            },
+        },
+        load: page::empty(),
+    }
+}
+
+fn refuse(number: u8) -> Replayed
+    ensures { λ r. ⌜ r ≡ record { reply = Reply.Refused number 0; state = poweredUp 4323 0 0 } ⌝ }
+{
+    Replayed {
+        reply: Reply::Refused(number, 0),
+        state: powered_up(4323, 0, 0),
+    }
+}
+
+// The part at power-up, or refusal 1, 2 or 3 with the state of part 4323, select 0, stored byte 00h.
+pub fn power_up(part: u16, select: u8, stored: u8) -> Replayed
+    ensures { λ r. ⌜ PowersUp part select stored r ⌝ }
+{
+    let kind = kinds::kind_of(part);
+    if kind.size == 0 {
+        return refuse(1);
+    }
+    if select > ranges::MOST_SELECT {
+        return refuse(2);
+    }
+    if ranges::is_storable(stored) {
+        return Replayed {
+            reply: Reply::Accepted(0),
+            state: powered_up(part, select, stored),
+        };
+    }
+    refuse(3)
+}
+
+// The control register as it reads, latches included.
+pub fn register(state: State) -> u8
+    ensures { λ r. ⌜ ReadsRegister state r ⌝ }
+{
+    let device = state.device;
+    control::reads(device.control)
+}
+
+// The array's size of the part that a number names.
+pub fn size_of(part: u16) -> Size
+    ensures { λ r. ⌜ SizesPart part r ⌝ }
+{
+    let kind = kinds::kind_of(part);
+    if kind.size == 0 {
+        return Size::Unknown;
+    }
+    Size::Bytes(kind.size as u32)
+}
