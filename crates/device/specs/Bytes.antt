@@ -2,26 +2,26 @@
 use Prim.Native.Nat.{ℕ, _*_, _%_}
 use mathlib.Core.Bool.{Bool, true, false, not}
 use mathlib.Core.List.{List}
-use lib.ListN.{getD}
 use lib.Dec.{eqb}
-use Rattle.part.specs.Numbers.{registerAddress}
+use Rattle.part.specs.Numbers.{registerAddress, byteValues}
 use Rattle.part.specs.Cases.{both, odd}
 use Rattle.part.specs.Lock.{lockedOf}
-use Rattle.part.specs.Page.{at, placeOf, nextInPage, nextInArray, filledOf}
+use Rattle.part.specs.Page.{placeOf, nextInPage, nextInArray, byteAt, filledOf}
 use Rattle.part.specs.declared.kinds.Kind.{Kind}
+use Rattle.part.specs.declared.state.BusAddress.{BusAddress}
 use Rattle.part.specs.declared.state.Phase.{Phase}
 use Rattle.part.specs.declared.state.Phase.the-variants.{Idle, Silent, Slave, High, Low, Data, Register, Send, SendRegister}
 use Rattle.part.specs.declared.state.Device.{Device}
 use Rattle.part.specs.declared.state.Load.{Load}
-use Rattle.device.specs.Register.{readsOf}
-use Rattle.device.specs.Talk.{withTalk, withCounter, withControl, withChosen, withPending, turned, acknowledged, released, sending, rested, addressOf, matches}
+use Rattle.control.specs.Register.{readsOf}
+use Rattle.device.specs.Talk.{withTalk, withChosen, pends, nonePends, acknowledged, rested, released, sending, addressOf, matches}
 
 -- A slave byte by cases: a match, a read, the register chosen; no match is silence (Bytes on the wire, after a start).
 abbrev pub slaveBy : Bool → Bool → Bool → Device → Device
-slaveBy false r c d = withTalk d (turned Silent (d .talk))
-slaveBy true false c d = withTalk d (acknowledged High (d .talk))
-slaveBy true true false d = withTalk d (acknowledged Send (d .talk))
-slaveBy true true true d = withTalk d (acknowledged SendRegister (d .talk))
+slaveBy false r c d = withTalk d (rested Silent)
+slaveBy true false c d = withTalk d (acknowledged High)
+slaveBy true true false d = withTalk d (acknowledged Send)
+slaveBy true true true d = withTalk d (acknowledged SendRegister)
 
 -- The slave byte (Bytes on the wire, after a start).
 unfoldable pub slaveOf : ℕ → Device → ℕ → Device
@@ -29,34 +29,34 @@ slaveOf select d v = slaveBy (matches select v) (odd v) (d .control .chosen) d
 
 -- The address's high byte, acknowledged (Bytes on the wire, write).
 unfoldable pub highOf : Device → ℕ → Device
-highOf d v = withTalk d (record { phase = Low; high = v; out = d .talk .out; own = false })
+highOf d v = withTalk d (record { phase = Low; high = v; out = 0; own = false })
 
--- A whole address by cases: FFFFh chooses the register, any other sets the counter and drops the choice (Bytes on the wire, write).
-abbrev pub addressBy : Bool → Kind → Device → ℕ → Device
-addressBy true k d a = record { talk = acknowledged Register (d .talk); counter = d .counter; control = withChosen (d .control) true }
-addressBy false k d a = record { talk = acknowledged Data (d .talk); counter = at (placeOf k a); control = withChosen (d .control) false }
+-- A whole address: FFFFh chooses the register, any other sets the counter and drops the choice (Bytes on the wire, write).
+abbrev pub addressBy : Bool → Kind → Device → BusAddress → Device
+addressBy true k d a = record { talk = acknowledged Register; counter = d .counter; control = withChosen (d .control) true }
+addressBy false k d a = record { talk = acknowledged Data; counter = placeOf k a; control = withChosen (d .control) false }
 
 -- The address's low byte, acknowledged (Bytes on the wire, write).
 unfoldable pub lowOf : Kind → Device → ℕ → Device
-lowOf k d v = addressBy (eqb (addressOf (d .talk .high) v) registerAddress) k d (addressOf (d .talk .high) v)
+lowOf k d v = addressBy (eqb (addressOf (d .talk .high) v .0) registerAddress) k d (addressOf (d .talk .high) v)
 
 -- Whether an array byte is taken: WEL set and the counter in no locked block (Bytes on the wire, array data).
 unfoldable pub takenOf : Kind → Device → Bool
-takenOf k d = both (d .control .wel) (not (lockedOf k (d .control .stored) (d .counter .0)))
+takenOf k d = both (d .control .wel) (not (lockedOf k (d .control .stored) (d .counter)))
 
--- An array byte, taken or not: acknowledged with the counter stepped in its page, or silence (Bytes on the wire, array data).
+-- An array byte, taken: acknowledged, the counter stepped in its page; or not: silence, RWEL staying (Bytes on the wire, array data).
 abbrev pub dataBy : Bool → Device → Device
-dataBy true d = record { talk = acknowledged Data (d .talk); counter = at (nextInPage (d .counter .0)); control = d .control }
-dataBy false d = withTalk d (turned Silent (d .talk))
+dataBy true d = record { talk = acknowledged Data; counter = nextInPage (d .counter); control = d .control }
+dataBy false d = withTalk d (rested Silent)
 
 -- A register byte: the first is acknowledged and pends, a second cancels it and silences the part (Control register).
 abbrev pub registerBy : Bool → Device → ℕ → Device
-registerBy false d v = record { talk = acknowledged Register (d .talk); counter = d .counter; control = withPending (d .control) true v }
-registerBy true d v = record { talk = turned Silent (d .talk); counter = d .counter; control = withPending (d .control) false 0 }
+registerBy false d v = record { talk = acknowledged Register; counter = d .counter; control = pends (d .control) v }
+registerBy true d v = record { talk = rested Silent; counter = d .counter; control = nonePends (d .control) }
 
 -- The register has been sent: the choice is dropped and the part is silent (Bytes on the wire, read).
 abbrev pub registerSent : Device → Device
-registerSent d = record { talk = rested Silent (d .talk); counter = d .counter; control = withChosen (d .control) false }
+registerSent d = record { talk = rested Silent; counter = d .counter; control = withChosen (d .control) false }
 
 -- The eighth fall of a byte, by phase (Bytes on the wire: what a byte does before a stop, it does at its eighth fall).
 abbrev pub byteIn : Phase → Kind → ℕ → Device → ℕ → Device
@@ -67,7 +67,7 @@ byteIn High k s d v = highOf d v
 byteIn Low k s d v = lowOf k d v
 byteIn Data k s d v = dataBy (takenOf k d) d
 byteIn Register k s d v = registerBy (d .control .pending) d v
-byteIn Send k s d v = withTalk d (rested Send (d .talk))
+byteIn Send k s d v = withTalk d (rested Send)
 byteIn SendRegister k s d v = registerSent d
 
 -- The device after a byte's eighth fall (Bytes on the wire).
@@ -76,7 +76,7 @@ byteOf k s d v = byteIn (d .talk .phase) k s d v
 
 -- A byte put in the load if it is taken (Bytes on the wire, array data).
 abbrev pub keptBy : Bool → Device → ℕ → Load → Load
-keptBy true d v l = filledOf l (d .counter .0) v
+keptBy true d v l = filledOf l (d .counter) v
 keptBy false d v l = l
 
 -- The load after a byte, by phase: only array data fills it (Bytes on the wire, array data).
@@ -95,9 +95,9 @@ keptIn SendRegister k d v l = l
 unfoldable pub keptOf : Kind → Device → ℕ → Load → Load
 keptOf k d v l = keptIn (d .talk .phase) k d v l
 
--- The next bit of a byte being sent goes out (Bytes on the wire, read: one bit per fall).
-abbrev pub nextBit : Device → Device
-nextBit d = withTalk d (sending (d .talk .out * 2 % 256) (d .talk))
+-- The next bit of a byte being sent goes out, in a phase that sends (Bytes on the wire, read: one bit per fall).
+abbrev pub nextBit : Phase → Device → Device
+nextBit p d = withTalk d (sending p (d .talk .out * 2 % byteValues))
 
 -- A fall that commits a bit below the eighth, by phase (Bytes on the wire, read).
 abbrev pub bitIn : Phase → Device → Device
@@ -108,28 +108,27 @@ bitIn High d = d
 bitIn Low d = d
 bitIn Data d = d
 bitIn Register d = d
-bitIn Send d = nextBit d
-bitIn SendRegister d = nextBit d
+bitIn Send d = nextBit Send d
+bitIn SendRegister d = nextBit SendRegister d
 
--- The device after such a fall (Bytes on the wire, read).
+-- The device after a fall that commits a bit below the eighth (Bytes on the wire, read).
 unfoldable pub bitOf : Device → Device
 bitOf d = bitIn (d .talk .phase) d
 
 -- The array byte at the counter is fetched, the counter steps, the highest bit goes out (Bytes on the wire, read).
 abbrev pub fetch : Kind → List ℕ → Device → Device
-fetch k array d =
-    record { talk = sending (getD array (d .counter .0) 0) (d .talk); counter = at (nextInArray k (d .counter .0)); control = d .control }
+fetch k array d = record { talk = sending Send (byteAt array (d .counter)); counter = nextInArray k (d .counter); control = d .control }
 
 -- The register as it reads is taken and its highest bit goes out, the counter staying (Bytes on the wire, read).
 abbrev pub fetchRegister : Device → Device
-fetchRegister d = withTalk d (sending (readsOf (d .control)) (d .talk))
+fetchRegister d = withTalk d (sending SendRegister (readsOf (d .control)))
 
--- A ninth fall while sending: a low bit goes on, a high one silences the part (Bytes on the wire, read).
-abbrev pub answeredBy : Bool → Device → Device → Device
-answeredBy false go d = go
-answeredBy true go d = withTalk d (turned Silent (d .talk))
+-- A ninth fall while sending the array: a low bit fetches, a high one silences the part (Bytes on the wire, read).
+abbrev pub answeredBy : Bool → Kind → List ℕ → Device → Device
+answeredBy false k array d = fetch k array d
+answeredBy true k array d = withTalk d (rested Silent)
 
--- The ninth fall, by phase: an acknowledge ends, or the next byte is sent (Bytes on the wire).
+-- The ninth fall, by phase: an acknowledge ends, or a byte is fetched (Bytes on the wire).
 abbrev pub ninthIn : Phase → Kind → List ℕ → Bool → Device → Device
 ninthIn Idle k array b d = d
 ninthIn Silent k array b d = d
@@ -138,8 +137,8 @@ ninthIn High k array b d = withTalk d (released (d .talk))
 ninthIn Low k array b d = withTalk d (released (d .talk))
 ninthIn Data k array b d = withTalk d (released (d .talk))
 ninthIn Register k array b d = withTalk d (released (d .talk))
-ninthIn Send k array b d = answeredBy b (fetch k array d) d
-ninthIn SendRegister k array b d = answeredBy b (fetchRegister d) d
+ninthIn Send k array b d = answeredBy b k array d
+ninthIn SendRegister k array b d = fetchRegister d
 
 -- The device after the ninth fall, with the ninth bit (Bytes on the wire).
 unfoldable pub ninthOf : Kind → List ℕ → Bool → Device → Device

@@ -4,28 +4,28 @@ use Rattle.part.specs.declared.state.Phase.{Phase}
 use Rattle.part.specs.declared.state.Phase.the-variants.{Idle, Silent, Slave}
 use Rattle.part.specs.declared.state.Control.{Control}
 use Rattle.part.specs.declared.state.Device.{Device}
-use Rattle.device.specs.Register.{orderOf, carriedOut}
-use Rattle.device.specs.Talk.{withChosen, withPending, rested}
+use Rattle.control.specs.Register.{orderOf, carriedOut}
+use Rattle.device.specs.Talk.{withChosen, nonePends, rested}
 
--- After a start the part hears a slave byte, or nothing while a write cycle runs (State and time, a start while writing).
+-- After a start the part hears a slave byte; after one while writing, nothing until another start (State and time).
 abbrev pub startPhase : Bool → Phase
 startPhase true = Silent
 startPhase false = Slave
 
--- A start drops a pending register byte and releases SDA; the counter and the register choice stay (Bytes on the wire, any start).
+-- A start drops a pending byte and releases SDA; the counter and the choice stay (Bytes on the wire, any start).
 unfoldable pub startedOf : Bool → Device → Device
 startedOf writing d =
-    record { talk = rested (startPhase writing) (d .talk); counter = d .counter; control = withPending (d .control) false 0 }
+    record { talk = rested (startPhase writing); counter = d .counter; control = nonePends (d .control) }
 
--- No choice and no pending byte (Bytes on the wire, any stop; State and time, rule 3).
+-- No choice and no pending byte (Bytes on the wire, any stop; State and time, 3).
 abbrev pub dropped : Control → Control
-dropped c = withChosen (withPending c false 0) false
+dropped c = withChosen (nonePends c) false
 
--- A stop carries out the pending byte's order, then drops it and the choice; the part is idle (Bytes on the wire, any stop; Control register).
+-- A stop carries out the pending byte's order, then drops it and the choice; the part is idle (Bytes on the wire, any stop).
 unfoldable pub stoppedOf : Bool → Device → Device
 stoppedOf wp d =
-    record { talk = rested Idle (d .talk); counter = d .counter; control = dropped (carriedOut (orderOf wp (d .control)) (d .control)) }
+    record { talk = rested Idle; counter = d .counter; control = dropped (carriedOut (orderOf wp (d .control)) (d .control)) }
 
--- While reset is active talk ends: SDA released, pending byte and choice dropped, part idle (State and time, rule 3).
+-- While reset is active talk ends: SDA released, pending byte and choice dropped, part idle (State and time, 3).
 unfoldable pub endedOf : Device → Device
-endedOf d = record { talk = rested Idle (d .talk); counter = d .counter; control = dropped (d .control) }
+endedOf d = record { talk = rested Idle; counter = d .counter; control = dropped (d .control) }

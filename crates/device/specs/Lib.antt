@@ -1,4 +1,3 @@
-pub mod Register
 pub mod Talk
 pub mod Bytes
 pub mod Ends

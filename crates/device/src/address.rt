@@ -8,32 +8,32 @@ use part::state::Phase;
 use part::state::Talk;
 ghost use mathlib.Core.Path.{_≡_};
 ghost use mathlib.Core.Bool.{Bool};
-ghost use Rattle.device.specs.Talk.{withTalk, withChosen, turned, acknowledged, matches, addressOf};
+ghost use Rattle.device.specs.Talk.{withChosen, acknowledged, rested, matches, addressOf};
 ghost use Rattle.device.specs.Bytes.{slaveOf, highOf, lowOf};
 
 pub const REGISTER_ADDRESS: u16 = 0xffff;
 
-// The next phase, SDA as it was.
-pub fn turn(phase: Phase, t: Talk) -> Talk
-    ensures { λ r. ⌜ r ≡ turned phase t ⌝ }
+// SDA pulled low for an acknowledge, with the phase after it.
+pub fn acknowledge(phase: Phase) -> Talk
+    ensures { λ r. ⌜ r ≡ acknowledged phase ⌝ }
 {
     Talk {
         phase,
-        high: t.high,
-        out: t.out,
-        own: t.own,
+        high: 0,
+        out: 0,
+        own: false,
     }
 }
 
-// The next phase, SDA pulled low.
-pub fn acknowledge(phase: Phase, t: Talk) -> Talk
-    ensures { λ r. ⌜ r ≡ acknowledged phase t ⌝ }
+// SDA released, nothing being sent.
+pub fn rest(phase: Phase) -> Talk
+    ensures { λ r. ⌜ r ≡ rested phase ⌝ }
 {
     Talk {
         phase,
-        high: t.high,
-        out: t.out,
-        own: false,
+        high: 0,
+        out: 0,
+        own: true,
     }
 }
 
@@ -59,25 +59,24 @@ fn is_ours(select: u8, v: u8) -> bool
 pub fn slave(select: u8, d: Device, v: u8) -> Device
     ensures { λ r. ⌜ r ≡ slaveOf select d v ⌝ }
 {
-    let talk = d.talk;
     let control = d.control;
     let mut next = d;
     if is_ours(select, v) {
         if v % 2 == 1 {
             if control.chosen {
-                let t = acknowledge(Phase::SendRegister, talk);
+                let t = acknowledge(Phase::SendRegister);
                 next.talk = t;
                 return next;
             }
-            let t = acknowledge(Phase::Send, talk);
+            let t = acknowledge(Phase::Send);
             next.talk = t;
             return next;
         }
-        let t = acknowledge(Phase::High, talk);
+        let t = acknowledge(Phase::High);
         next.talk = t;
         return next;
     }
-    let t = turn(Phase::Silent, talk);
+    let t = rest(Phase::Silent);
     next.talk = t;
     next
 }
@@ -85,11 +84,10 @@ pub fn slave(select: u8, d: Device, v: u8) -> Device
 pub fn high(d: Device, v: u8) -> Device
     ensures { λ r. ⌜ r ≡ highOf d v ⌝ }
 {
-    let talk = d.talk;
     let t = Talk {
         phase: Phase::Low,
         high: v,
-        out: talk.out,
+        out: 0,
         own: false,
     };
     let mut next = d;
@@ -98,7 +96,7 @@ pub fn high(d: Device, v: u8) -> Device
 }
 
 fn address(high: u8, low: u8) -> BusAddress
-    ensures { λ r. ⌜ r .0 ≡ addressOf high low ⌝ }
+    ensures { λ r. ⌜ r ≡ addressOf high low ⌝ }
 {
     BusAddress((high as u16) * 256 + (low as u16))
 }
@@ -112,13 +110,13 @@ pub fn low(kind: Kind, d: Device, v: u8) -> Device
     let a = address(talk.high, v);
     let mut next = d;
     if a.0 == REGISTER_ADDRESS {
-        let t = acknowledge(Phase::Register, talk);
+        let t = acknowledge(Phase::Register);
         let c = choose(control, true);
         next.talk = t;
         next.control = c;
         return next;
     }
-    let t = acknowledge(Phase::Data, talk);
+    let t = acknowledge(Phase::Data);
     let c = choose(control, false);
     let p = page::place_of(kind, a);
     next.talk = t;

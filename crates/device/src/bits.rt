@@ -1,6 +1,5 @@
 // A bit below the eighth, and the ninth.
 use crate::address;
-use crate::register;
 use part::kinds::Kind;
 use part::page;
 use part::state::Device;
@@ -8,8 +7,8 @@ use part::state::Phase;
 use part::state::Talk;
 ghost use mathlib.Core.Path.{_≡_};
 ghost use mathlib.Core.Bool.{Bool};
-ghost use Rattle.device.specs.Talk.{withTalk, released, sending, rested};
-ghost use Rattle.device.specs.Bytes.{nextBit, bitOf, fetch, fetchRegister, answeredBy, ninthOf};
+ghost use Rattle.device.specs.Talk.{withTalk, released, sending};
+ghost use Rattle.device.specs.Bytes.{nextBit, bitOf, fetchRegister, answeredBy, ninthOf};
 
 fn release(t: Talk) -> Talk
     ensures { λ r. ⌜ r ≡ released t ⌝ }
@@ -20,34 +19,23 @@ fn release(t: Talk) -> Talk
 }
 
 // A byte is being sent: its highest bit is out.
-pub fn send(v: u8, t: Talk) -> Talk
-    ensures { λ r. ⌜ r ≡ sending v t ⌝ }
-{
-    let mut next = t;
-    next.out = v;
-    let own = v / 128 % 2 == 1;
-    next.own = own;
-    next
-}
-
-// Nothing is being sent, SDA is released.
-pub fn rest(phase: Phase, t: Talk) -> Talk
-    ensures { λ r. ⌜ r ≡ rested phase t ⌝ }
+fn send(phase: Phase, v: u8) -> Talk
+    ensures { λ r. ⌜ r ≡ sending phase v ⌝ }
 {
     Talk {
         phase,
-        high: t.high,
-        out: 0,
-        own: true,
+        high: 0,
+        out: v,
+        own: v / 128 % 2 == 1,
     }
 }
 
-fn next_bit(d: Device) -> Device
-    ensures { λ r. ⌜ r ≡ nextBit d ⌝ }
+fn next_bit(phase: Phase, d: Device) -> Device
+    ensures { λ r. ⌜ r ≡ nextBit phase d ⌝ }
 {
     let talk = d.talk;
     let v = ((talk.out as u16) * 2 % 256) as u8;
-    let t = send(v, talk);
+    let t = send(phase, v);
     let mut next = d;
     next.talk = t;
     next
@@ -60,8 +48,8 @@ pub fn bit(d: Device) -> Device
     let talk = d.talk;
     let phase = talk.phase;
     match phase {
-        Phase::Send => next_bit(d),
-        Phase::SendRegister => next_bit(d),
+        Phase::Send => next_bit(phase, d),
+        Phase::SendRegister => next_bit(phase, d),
         Phase::Idle => d,
         Phase::Silent => d,
         Phase::Slave => d,
@@ -83,35 +71,28 @@ fn heard(d: Device) -> Device
 }
 
 fn send_array(kind: Kind, array: &[u8], b: bool, d: Device) -> Device
-    ensures { λ r. ⌜ r ≡ answeredBy b (fetch kind (now (array .entry)) d) d ⌝ }
+    ensures { λ r. ⌜ r ≡ answeredBy b kind (now (array .entry)) d ⌝ }
 {
-    let talk = d.talk;
     let mut next = d;
     if b {
-        let t = address::turn(Phase::Silent, talk);
+        let t = address::rest(Phase::Silent);
         next.talk = t;
         return next;
     }
     let v = page::fetched(array, d.counter);
-    let t = send(v, talk);
+    let t = send(Phase::Send, v);
     let p = page::next_in_array(kind, d.counter);
     next.talk = t;
     next.counter = p;
     next
 }
 
-fn send_register(b: bool, d: Device) -> Device
-    ensures { λ r. ⌜ r ≡ answeredBy b (fetchRegister d) d ⌝ }
+fn send_register(d: Device) -> Device
+    ensures { λ r. ⌜ r ≡ fetchRegister d ⌝ }
 {
-    let talk = d.talk;
+    let v = control::reads(d.control);
+    let t = send(Phase::SendRegister, v);
     let mut next = d;
-    if b {
-        let t = address::turn(Phase::Silent, talk);
-        next.talk = t;
-        return next;
-    }
-    let v = register::reads(d.control);
-    let t = send(v, talk);
     next.talk = t;
     next
 }
@@ -131,6 +112,6 @@ pub fn ninth(kind: Kind, array: &[u8], b: bool, d: Device) -> Device
         Phase::Data => heard(d),
         Phase::Register => heard(d),
         Phase::Send => send_array(kind, array, b, d),
-        Phase::SendRegister => send_register(b, d),
+        Phase::SendRegister => send_register(d),
     }
 }

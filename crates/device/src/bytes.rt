@@ -1,6 +1,5 @@
 // A whole byte, at its eighth fall.
 use crate::address;
-use crate::bits;
 use part::kinds::Kind;
 use part::lock;
 use part::page;
@@ -10,15 +9,26 @@ use part::state::Load;
 use part::state::Phase;
 ghost use mathlib.Core.Path.{_≡_};
 ghost use mathlib.Core.Bool.{Bool};
-ghost use Rattle.device.specs.Talk.{withTalk, withPending, rested};
+ghost use Rattle.device.specs.Talk.{withTalk, pends, nonePends, rested};
 ghost use Rattle.device.specs.Bytes.{takenOf, dataBy, registerBy, registerSent, byteOf, keptOf};
 
-pub fn pend(c: Control, pending: bool, value: u8) -> Control
-    ensures { λ r. ⌜ r ≡ withPending c pending value ⌝ }
+// A register byte pends.
+fn pend(c: Control, value: u8) -> Control
+    ensures { λ r. ⌜ r ≡ pends c value ⌝ }
 {
     let mut next = c;
-    next.pending = pending;
+    next.pending = true;
     next.value = value;
+    next
+}
+
+// No register byte pends.
+pub fn unpend(c: Control) -> Control
+    ensures { λ r. ⌜ r ≡ nonePends c ⌝ }
+{
+    let mut next = c;
+    next.pending = false;
+    next.value = 0;
     next
 }
 
@@ -39,16 +49,15 @@ pub fn taken(kind: Kind, d: Device) -> bool
 fn data(kind: Kind, d: Device) -> Device
     ensures { λ r. ⌜ r ≡ dataBy (takenOf kind d) d ⌝ }
 {
-    let talk = d.talk;
     let mut next = d;
     if taken(kind, d) {
-        let t = address::acknowledge(Phase::Data, talk);
+        let t = address::acknowledge(Phase::Data);
         let p = page::next_in_page(d.counter);
         next.talk = t;
         next.counter = p;
         return next;
     }
-    let t = address::turn(Phase::Silent, talk);
+    let t = address::rest(Phase::Silent);
     next.talk = t;
     next
 }
@@ -56,18 +65,17 @@ fn data(kind: Kind, d: Device) -> Device
 fn register(d: Device, v: u8) -> Device
     ensures { λ r. ⌜ r ≡ registerBy (d .control .pending) d v ⌝ }
 {
-    let talk = d.talk;
     let control = d.control;
     let mut next = d;
     if control.pending {
-        let t = address::turn(Phase::Silent, talk);
-        let c = pend(control, false, 0);
+        let t = address::rest(Phase::Silent);
+        let c = unpend(control);
         next.talk = t;
         next.control = c;
         return next;
     }
-    let t = address::acknowledge(Phase::Register, talk);
-    let c = pend(control, true, v);
+    let t = address::acknowledge(Phase::Register);
+    let c = pend(control, v);
     next.talk = t;
     next.control = c;
     next
@@ -75,10 +83,9 @@ fn register(d: Device, v: u8) -> Device
 
 // A byte of the array has been sent.
 fn sent(d: Device) -> Device
-    ensures { λ r. ⌜ r ≡ withTalk d (rested Phase.Send (d .talk)) ⌝ }
+    ensures { λ r. ⌜ r ≡ withTalk d (rested Phase.Send) ⌝ }
 {
-    let talk = d.talk;
-    let t = bits::rest(Phase::Send, talk);
+    let t = address::rest(Phase::Send);
     let mut next = d;
     next.talk = t;
     next
@@ -88,9 +95,8 @@ fn sent(d: Device) -> Device
 fn register_sent(d: Device) -> Device
     ensures { λ r. ⌜ r ≡ registerSent d ⌝ }
 {
-    let talk = d.talk;
     let control = d.control;
-    let t = bits::rest(Phase::Silent, talk);
+    let t = address::rest(Phase::Silent);
     let c = address::choose(control, false);
     let mut next = d;
     next.talk = t;

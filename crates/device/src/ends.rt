@@ -1,13 +1,11 @@
 // A start, a stop, and reset.
-use crate::bits;
+use crate::address;
 use crate::bytes;
-use crate::register;
 use part::state::Control;
 use part::state::Device;
 use part::state::Phase;
 ghost use mathlib.Core.Path.{_≡_};
 ghost use mathlib.Core.Bool.{Bool};
-ghost use Rattle.device.specs.Register.{orderOf, takesTime};
 ghost use Rattle.device.specs.Ends.{dropped, startedOf, stoppedOf, endedOf};
 
 // No choice, no pending byte.
@@ -25,17 +23,16 @@ fn drop_all(c: Control) -> Control
 pub fn start(writing: bool, d: Device) -> Device
     ensures { λ r. ⌜ r ≡ startedOf writing d ⌝ }
 {
-    let talk = d.talk;
     let control = d.control;
-    let c = bytes::pend(control, false, 0);
+    let c = bytes::unpend(control);
     let mut next = d;
     next.control = c;
     if writing {
-        let t = bits::rest(Phase::Silent, talk);
+        let t = address::rest(Phase::Silent);
         next.talk = t;
         return next;
     }
-    let t = bits::rest(Phase::Slave, talk);
+    let t = address::rest(Phase::Slave);
     next.talk = t;
     next
 }
@@ -44,11 +41,10 @@ pub fn start(writing: bool, d: Device) -> Device
 pub fn stop(wp: bool, d: Device) -> Device
     ensures { λ r. ⌜ r ≡ stoppedOf wp d ⌝ }
 {
-    let talk = d.talk;
     let control = d.control;
-    let order = register::order_of(wp, control);
-    let carried = register::carry_out(order, control);
-    let t = bits::rest(Phase::Idle, talk);
+    let order = control::order_of(wp, control);
+    let carried = control::carry_out(order, control);
+    let t = address::rest(Phase::Idle);
     let c = drop_all(carried);
     let mut next = d;
     next.talk = t;
@@ -56,27 +52,12 @@ pub fn stop(wp: bool, d: Device) -> Device
     next
 }
 
-// Whether a stop's order takes the write time.
-pub fn commits(wp: bool, c: Control) -> bool
-    ensures { λ r. ⌜ r ≡ takesTime (orderOf wp c) ⌝ }
-{
-    let order = register::order_of(wp, c);
-    match order {
-        register::Order::Take => true,
-        register::Order::SetWel => false,
-        register::Order::ClearWel => false,
-        register::Order::SetRwel => false,
-        register::Order::Nothing => false,
-    }
-}
-
 // The device while reset is active.
 pub fn end(d: Device) -> Device
     ensures { λ r. ⌜ r ≡ endedOf d ⌝ }
 {
-    let talk = d.talk;
     let control = d.control;
-    let t = bits::rest(Phase::Idle, talk);
+    let t = address::rest(Phase::Idle);
     let c = drop_all(control);
     let mut next = d;
     next.talk = t;

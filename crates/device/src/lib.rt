@@ -4,4 +4,3 @@ pub mod address;
 pub mod bits;
 pub mod bytes;
 pub mod ends;
-pub mod register;

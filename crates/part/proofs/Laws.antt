@@ -8,7 +8,7 @@ use lib.ListN.{length, getD, take, drop, set, length-drop, take-append-drop, dro
 use lib.Seq.{drop-cons, take-all}
 use Rattle.part.specs.Cases.{some}
 use Rattle.part.specs.Lock.{extentOf, extentTable, firstPages}
-use Rattle.part.specs.Page.{putOf, oneOf, layOf}
+use Rattle.part.specs.Page.{oneOf, layOf}
 use Rattle.part.specs.declared.kinds.Kind.{Kind}
 
 -- The codes 0 to 2 lock nothing.
@@ -38,21 +38,16 @@ lay-nil (m ∷ ms) [] = refl
 lay-nil (m ∷ ms) (b ∷ bs) = refl
 
 -- One turn of the laying: the byte at i is put, and what is left is laid from i + 1 on.
-pub lay-turn : (m : Bool) (b : ℕ) (ms : List Bool) (bs xs : List ℕ) (i : ℕ)
-    → i < length ms → i < length bs → i < length xs → getD ms i false ≡ m → getD bs i 0 ≡ b
-    → take (suc i) (putOf m b i xs) ++ layOf (drop (suc i) ms) (drop (suc i) bs) (drop (suc i) (putOf m b i xs))
+pub lay-turn : (ms : List Bool) (bs xs : List ℕ) (i v : ℕ) → i < length ms → i < length bs → i < length xs
+    → v ≡ oneOf (getD ms i false) (getD bs i 0) (getD xs i 0)
+    → take (suc i) (set xs i v) ++ layOf (drop (suc i) ms) (drop (suc i) bs) (drop (suc i) (set xs i v))
     ≡ take i xs ++ layOf (drop i ms) (drop i bs) (drop i xs)
-lay-turn m b [] bs xs i p q r e f = absurd (omega arith)
-lay-turn m b (n ∷ ms) [] xs i p q r e f = absurd (omega arith)
-lay-turn m b (n ∷ ms) (a ∷ bs) [] i p q r e f = absurd (omega arith)
-lay-turn true b (n ∷ ms) (a ∷ bs) (x ∷ xs) zero p q r e f = rw (e, f)
-lay-turn false b (n ∷ ms) (a ∷ bs) (x ∷ xs) zero p q r e f = rw e
-lay-turn true b (n ∷ ms) (a ∷ bs) (x ∷ xs) (suc i) p q r e f = ap (λ (l : List ℕ). x ∷ l) (lay-turn true b ms bs xs i (omega arith) (omega arith) (omega arith) e f)
-lay-turn false b (n ∷ ms) (a ∷ bs) (x ∷ xs) (suc i) p q r e f = ap (λ (l : List ℕ). x ∷ l) (lay-turn false b ms bs xs i (omega arith) (omega arith) (omega arith) e f)
-
-pub length-put : (m : Bool) (b i : ℕ) (xs : List ℕ) → length (putOf m b i xs) ≡ length xs
-length-put true b i xs = lib.ListN.length-set xs i b
-length-put false b i xs = refl
+lay-turn [] bs xs i v p q r e = absurd (omega arith)
+lay-turn (n ∷ ms) [] xs i v p q r e = absurd (omega arith)
+lay-turn (n ∷ ms) (a ∷ bs) [] i v p q r e = absurd (omega arith)
+lay-turn (n ∷ ms) (a ∷ bs) (x ∷ xs) zero v p q r e = rw e
+lay-turn (n ∷ ms) (a ∷ bs) (x ∷ xs) (suc i) v p q r e =
+    ap (λ (l : List ℕ). x ∷ l) (lay-turn ms bs xs i v (omega arith) (omega arith) (omega arith) e)
 
 -- A code from 3 on that is none of 3 to 7 lies beyond 7.
 pub past-seven : (n : ℕ) → 3 ≤ n → (n ≡ 3 → ⊥) → (n ≡ 4 → ⊥) → (n ≡ 5 → ⊥) → (n ≡ 6 → ⊥) → (n ≡ 7 → ⊥) → 8 ≤ n

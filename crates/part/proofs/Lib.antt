@@ -1,1 +1,4 @@
+pub mod Known
 pub mod Laws
+pub mod Places
+pub mod Store

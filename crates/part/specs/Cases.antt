@@ -9,11 +9,6 @@ abbrev pub both : Bool → Bool → Bool
 both true b = b
 both false b = false
 
--- Every test of a list holds.
-abbrev pub every : List Bool → Bool
-every [] = true
-every (b ∷ bs) = both b (every bs)
-
 -- Some test of a list holds.
 abbrev pub some : List Bool → Bool
 some [] = false
@@ -28,3 +23,11 @@ orZero false n = 0
 -- Whether the lowest bit of a number is set.
 abbrev pub odd : ℕ → Bool
 odd n = eqb (n % 2) 1
+
+-- Whether the highest bit of a byte is set.
+abbrev pub highest : ℕ → Bool
+highest v = odd (v / 128)
+
+-- Bits 2 and 1 of a byte, as a number.
+abbrev pub middle : ℕ → ℕ
+middle v = v / 2 % 4

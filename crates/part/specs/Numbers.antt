@@ -1,7 +1,7 @@
--- The numbers of document 01, each named once.
+-- The numbers of document 01 that stand alone, each named once; refusal numbers and control bytes stand in their tables.
 use Prim.Native.Nat.{ℕ}
 
--- Microseconds that a nonvolatile write takes (Bytes on the wire, stop; Control register, third step).
+-- Microseconds that a nonvolatile write takes (Bytes on the wire, stop; Control register, RWEL high).
 abbrev pub writeTime : ℕ
 writeTime = 5000
 
@@ -9,21 +9,29 @@ writeTime = 5000
 abbrev pub resetHold : ℕ
 resetHold = 200000
 
--- The longest watchdog period, that of WD 00 (State and time, ranges and table).
+-- The longest watchdog period, that of WD 00 (State and time, ranges and every start).
 abbrev pub longWatch : ℕ
 longWatch = 1400000
 
--- The watchdog period of WD 01 (State and time, table).
+-- The watchdog period of WD 01 (State and time, every start).
 abbrev pub middleWatch : ℕ
 middleWatch = 600000
 
--- The watchdog period of WD 10 (State and time, table).
+-- The watchdog period of WD 10 (State and time, every start).
 abbrev pub shortWatch : ℕ
 shortWatch = 200000
 
 -- Bytes in a page (State and time, the page load).
 abbrev pub pageSize : ℕ
 pageSize = 64
+
+-- The part number of the X4323 (Refusal numbers, 1).
+abbrev pub x4323 : ℕ
+x4323 = 4323
+
+-- The part number of the X4325 (Refusal numbers, 1).
+abbrev pub x4325 : ℕ
+x4325 = 4325
 
 -- The array's size of an X4323 and an X4325 (The part on our bench).
 abbrev pub smallSize : ℕ
@@ -48,6 +56,14 @@ mostLevel = 15
 -- The most samples of a capture (Refusal numbers, 7).
 abbrev pub mostSamples : ℕ
 mostSamples = 65536
+
+-- The five bits 1010 0 that a slave byte begins with (Bytes on the wire, after a start).
+abbrev pub slaveCode : ℕ
+slaveCode = 20
+
+-- How many values a byte has.
+abbrev pub byteValues : ℕ
+byteValues = 256
 
 -- The bus address that chooses the control register (Bytes on the wire, write).
 abbrev pub registerAddress : ℕ

@@ -3,20 +3,20 @@ use Prim.Native.Nat.{ℕ, _-_, _/_, _%_}
 use mathlib.Core.Bool.{Bool, true, false}
 use mathlib.Core.List.{List, [], _∷_}
 use lib.ListN.{getD}
-use lib.Dec.{eqb}
+use lib.Dec.{eqb, ltb}
 use Rattle.part.specs.Numbers.{resetHold, longWatch, middleWatch, shortWatch}
 use Rattle.part.specs.declared.state.Timers.{Timers}
 use Rattle.part.specs.declared.state.Watchdog.{Watchdog}
 
--- A watchdog that runs with a time left (State and time, the start's load).
+-- A watchdog that runs with a time left (State and time, every start).
 abbrev pub runs : ℕ → Watchdog
 runs left = record { running = true; left = left }
 
--- A watchdog that is off, with 0 left (State and time, the start's load).
+-- A watchdog that is off, with 0 left (State and time, every start).
 abbrev pub off : Watchdog
 off = record { running = false; left = 0 }
 
--- What WD1 WD0 = 00, 01, 10, 11 load (State and time, the start's load).
+-- What WD1 WD0 = 00, 01, 10, 11 load (State and time, every start).
 abbrev pub watchTable : List Watchdog
 watchTable = runs longWatch ∷ runs middleWatch ∷ runs shortWatch ∷ off ∷ []
 
@@ -24,23 +24,48 @@ watchTable = runs longWatch ∷ runs middleWatch ∷ runs shortWatch ∷ off ∷
 abbrev pub watchCode : ℕ → ℕ
 watchCode v = v / 32 % 4
 
--- The watchdog as a control byte loads it (State and time, the start's load).
+-- The watchdog as a control byte loads it (State and time, every start).
 unfoldable pub loadedOf : ℕ → Watchdog
 loadedOf stored = getD watchTable (watchCode stored) off
 
+-- Whether a write cycle runs (What goes in and what comes out, answer bit 2; State and time, a start while writing).
+abbrev pub writes : Timers → Bool
+writes t = ltb 0 (t .write)
+
+-- The write time falls, not below 0 (State and time, 1).
+abbrev pub writeFell : ℕ → Timers → Timers
+writeFell e t = record { write = t .write - e; hold = t .hold; reset = t .reset; low = t .low; watchdog = t .watchdog }
+
+-- The hold falls, reset going on (State and time, 1).
+abbrev pub holdFell : ℕ → Timers → Timers
+holdFell e t = record { write = t .write; hold = t .hold - e; reset = true; low = t .low; watchdog = t .watchdog }
+
+-- Reset ends and the watchdog is loaded (State and time, 1).
+abbrev pub resetEnds : Watchdog → Timers → Timers
+resetEnds w t = record { write = t .write; hold = 0; reset = false; low = t .low; watchdog = w }
+
+-- The running watchdog falls (State and time, 1).
+abbrev pub watchFell : ℕ → Timers → Timers
+watchFell e t = record { write = t .write; hold = t .hold; reset = false; low = t .low; watchdog = runs (t .watchdog .left - e) }
+
+-- Reset begins with the whole hold, the watchdog at 0 (State and time, 1).
+abbrev pub resetBegins : Timers → Timers
+resetBegins t = record { write = t .write; hold = resetHold; reset = true; low = t .low; watchdog = runs 0 }
+
 -- Rule 1 by cases: reset active, low-VCC flag, hold used up, watchdog running, its time used up (State and time, 1).
 abbrev pub timedBy : Bool → Bool → Bool → Bool → Bool → Watchdog → ℕ → Timers → Timers
-timedBy true true h r u w e t = record { write = t .write - e; hold = t .hold; reset = true; low = true; watchdog = t .watchdog }
-timedBy true false false r u w e t = record { write = t .write - e; hold = t .hold - e; reset = true; low = false; watchdog = t .watchdog }
-timedBy true false true r u w e t = record { write = t .write - e; hold = 0; reset = false; low = false; watchdog = w }
-timedBy false l h false u w e t = record { write = t .write - e; hold = t .hold; reset = false; low = l; watchdog = t .watchdog }
-timedBy false l h true false w e t = record { write = t .write - e; hold = t .hold; reset = false; low = l; watchdog = runs (t .watchdog .left - e) }
-timedBy false l h true true w e t = record { write = t .write - e; hold = resetHold; reset = true; low = l; watchdog = runs 0 }
+timedBy true true h r u w e t = t
+timedBy true false false r u w e t = holdFell e t
+timedBy true false true r u w e t = resetEnds w t
+timedBy false l h false u w e t = t
+timedBy false l h true false w e t = watchFell e t
+timedBy false l h true true w e t = resetBegins t
 
 -- Rule 1: the timers after an elapsed time e, with the control byte that would load the watchdog (State and time, 1).
 unfoldable pub timedOf : ℕ → ℕ → Timers → Timers
 timedOf stored e t =
-    timedBy (t .reset) (t .low) (eqb (t .hold - e) 0) (t .watchdog .running) (eqb (t .watchdog .left - e) 0) (loadedOf stored) e t
+    timedBy (t .reset) (t .low) (eqb (t .hold - e) 0) (t .watchdog .running) (eqb (t .watchdog .left - e) 0) (loadedOf stored) e
+    (writeFell e t)
 
 -- Rule 2: good VCC clears the flag; low VCC resets with the whole hold and sets it (State and time, 2).
 unfoldable pub suppliedOf : Bool → Timers → Timers

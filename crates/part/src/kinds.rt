@@ -2,6 +2,10 @@
 ghost use mathlib.Core.Path.{_≡_};
 ghost use Rattle.part.specs.Kind.{kindOf};
 
+pub const X4323: u16 = 4323;
+
+pub const X4325: u16 = 4325;
+
 pub const SMALL_SIZE: u16 = 4096;
 
 // The array's size in bytes and the RESET pin's active level. A size of 0 is no part.
@@ -14,11 +18,11 @@ pub fn kind_of(part: u16) -> Kind
     ensures { λ r. ⌜ r ≡ kindOf part ⌝ }
 {
     match part {
-        4323 => Kind {
+        X4323 => Kind {
             size: SMALL_SIZE,
             high: false,
         },
-        4325 => Kind {
+        X4325 => Kind {
             size: SMALL_SIZE,
             high: true,
         },

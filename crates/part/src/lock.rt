@@ -37,7 +37,7 @@ pub fn extent_of(kind: Kind, code: u8) -> Extent
 
 // Whether a place lies in a locked page.
 pub fn locked(kind: Kind, stored: u8, place: Place) -> bool
-    ensures { λ r. ⌜ r ≡ lockedOf kind stored (place .0) ⌝ }
+    ensures { λ r. ⌜ r ≡ lockedOf kind stored place ⌝ }
 {
     let e = extent_of(kind, block_code(stored));
     let page = place.0 / 64;

@@ -5,13 +5,13 @@ use crate::state::Load;
 use crate::state::Place;
 ghost use mathlib.Core.Path.{_≡_};
 ghost use mathlib.Core.Bool.{Bool};
-ghost use lib.ListN.{getD};
+ghost use lib.ListN.{getD, set};
 ghost use Rattle.part.specs.Cases.{some};
-ghost use Rattle.part.specs.Page.{at, placeOf, nextInPage, nextInArray, emptyLoad, filledOf, putOf, layOf, storeOf};
+ghost use Rattle.part.specs.Page.{placeOf, nextInPage, nextInArray, byteAt, emptyLoad, filledOf, oneOf, layOf, storeOf};
 
 // The place that a bus address names: as many low bits as the array has.
 pub fn place_of(kind: Kind, address: BusAddress) -> Place
-    ensures { λ r. ⌜ r ≡ at (placeOf kind (address .0)) ⌝ }
+    ensures { λ r. ⌜ r ≡ placeOf kind address ⌝ }
 {
     let size = kind.size;
     if size == 0 {
@@ -22,7 +22,7 @@ pub fn place_of(kind: Kind, address: BusAddress) -> Place
 
 // The next place of the same page, the last going to the first.
 pub fn next_in_page(place: Place) -> Place
-    ensures { λ r. ⌜ r ≡ at (nextInPage (place .0)) ⌝ }
+    ensures { λ r. ⌜ r ≡ nextInPage place ⌝ }
 {
     let p = place.0;
     Place(p / 64 * 64 + (p % 64 + 1) % 64)
@@ -30,7 +30,7 @@ pub fn next_in_page(place: Place) -> Place
 
 // The next place of the array, the last going to the first.
 pub fn next_in_array(kind: Kind, place: Place) -> Place
-    ensures { λ r. ⌜ r ≡ at (nextInArray kind (place .0)) ⌝ }
+    ensures { λ r. ⌜ r ≡ nextInArray kind place ⌝ }
 {
     let p = place.0;
     let size = kind.size;
@@ -56,7 +56,7 @@ pub fn empty() -> Load
 
 // The load with a byte put at a place of its page.
 pub fn filled(load: Load, place: Place, byte: u8) -> Load
-    ensures { λ r. ⌜ r ≡ filledOf load (place .0) byte ⌝ }
+    ensures { λ r. ⌜ r ≡ filledOf load place byte ⌝ }
 {
     let index = (place.0 % 64) as usize;
     let mut next = load;
@@ -81,7 +81,7 @@ pub fn marked(marks: [bool; 64]) -> bool
 
 // The byte at a place, 0 beyond the array.
 pub fn fetched(array: &[u8], place: Place) -> u8
-    ensures { λ r. ⌜ r ≡ getD (now (array .entry)) (place .0) 0 ⌝ }
+    ensures { λ r. ⌜ r ≡ byteAt (now (array .entry)) place ⌝ }
 {
     let index = place.0 as usize;
     if index < array.len() {
@@ -91,7 +91,7 @@ pub fn fetched(array: &[u8], place: Place) -> u8
 }
 
 fn put(page: &mut [u8], index: usize, mark: bool, byte: u8)
-    ensures { λ _. ⌜ now (page .exit) ≡ putOf mark byte index (now (page .entry)) ⌝ }
+    ensures { λ _. ⌜ now (page .exit) ≡ set (now (page .entry)) index (oneOf mark byte (getD (now (page .entry)) index 0)) ⌝ }
 {
     if mark {
         if index < page.len() {
@@ -118,7 +118,7 @@ fn lay(page: &mut [u8], load: Load)
 
 // The load goes into the part of the array that starts at the place's page.
 pub fn store(array: &mut [u8], place: Place, load: Load)
-    ensures { λ _. ⌜ now (array .exit) ≡ storeOf (place .0) load (now (array .entry)) ⌝ }
+    ensures { λ _. ⌜ now (array .exit) ≡ storeOf place load (now (array .entry)) ⌝ }
 {
     let first = (place.0 / 64 * 64) as usize;
     if first < array.len() {

@@ -9,11 +9,10 @@ use lib.Dec.{leb, ltb, eqb}
 use lib.ListN.{length, getD, take, drop, set, drop-of-length-le}
 use lib.Seq.{drop-cons, take-all, take-suc-set}
 use borrow.Author.Tests.{lt-ltb, eqb-true}
-use Rattle.part.specs.Cases.{both}
 use Rattle.part.specs.Numbers.{mostElapsed, mostLevel, mostSamples}
 use Rattle.part.specs.Kind.{kindOf}
-use Rattle.twin.specs.Level.{answerOf}
-use Rattle.twin.specs.Sample.{stepOf, arrayOf}
+use Rattle.sample.specs.Level.{answerOf}
+use Rattle.sample.specs.Sample.{stepOf, arrayOf}
 use Rattle.twin.specs.Run.{Part, partStep, runOf, answersOf}
 use Rattle.twin.specs.Refusals.{Verdict, accepted, refused, meant, sampleBy, samplesOf, judgedBy, judgedOf, inRange}
 use Rattle.twin.specs.declared.replays.Reply.{Reply}
@@ -49,10 +48,6 @@ run-done es ls i p h = rw (drop-of-length-le es h)
 pub row-done : (es ls row : List ℕ) (i : ℕ) (p : Part) → length es ≤ i → length row ≤ i
     → take i row ++ answersOf (drop i es) (drop i ls) p ≡ row
 row-done es ls row i p h k = rw (drop-of-length-le es h, take-all i row k, append-nil)
-
-pub both-true : (b : Bool) → both b true ≡ b
-both-true true = refl
-both-true false = refl
 
 -- Nothing is left to judge past the rows' end.
 pub samples-done : (es ls : List ℕ) (i : ℕ) (v : Verdict) → length es ≤ i → samplesOf i (drop i es) (drop i ls) v ≡ v

@@ -1,5 +1,4 @@
-pub mod Level
-pub mod Sample
 pub mod Run
 pub mod Refusals
+pub mod Power
 pub mod Promises

@@ -1,13 +1,14 @@
 -- What is refused, with its number and place (document 01, Refusal numbers; State and time, ranges and power-up).
-use Prim.Native.Nat.{ℕ, _+_, _/_, _%_}
+use Prim.Native.Nat.{ℕ, _+_}
 use mathlib.Core.Bool.{Bool, true, false}
 use mathlib.Core.List.{List, [], _∷_}
 use lib.ListN.{length}
 use lib.Dec.{eqb, leb, ltb}
 use Rattle.part.specs.Numbers.{writeTime, resetHold, longWatch, mostSelect, mostBits, mostElapsed, mostLevel, mostSamples}
-use Rattle.part.specs.Cases.{every}
+use Rattle.part.specs.Cases.{both, middle}
 use Rattle.part.specs.Kind.{kindOf, known}
 use Rattle.part.specs.declared.state.State.{State}
+use Rattle.part.specs.declared.state.Timers.{Timers}
 use Rattle.twin.specs.declared.replays.Reply.{Reply}
 use Rattle.twin.specs.declared.replays.Reply.the-variants.{Accepted, Refused}
 use Rattle.twin.specs.declared.power.Size.{Size}
@@ -23,40 +24,44 @@ unfoldable pub meant : Reply → Verdict
 meant (Accepted n) = accepted n
 meant (Refused k p) = refused k p
 
+-- Refusal 1: the number names no part (Refusal numbers, 1).
+abbrev pub noPart : Verdict
+noPart = refused 1 0
+
 -- What each case of a size says: the bytes, or refusal 1 (Refusal numbers, 1).
 unfoldable pub sizeMeant : Size → Verdict
 sizeMeant (Bytes n) = accepted n
-sizeMeant Unknown = refused 1 0
+sizeMeant Unknown = noPart
 
 -- Bits 1 and 2 of a stored control byte are clear (Refusal numbers, 3; State and time, ranges).
 abbrev pub storable : ℕ → Bool
-storable v = eqb (v / 2 % 4) 0
+storable v = eqb (middle v) 0
 
--- The eight ranges of a state (State and time, ranges).
+-- The three ranges of times: write time, reset hold and watchdog left (State and time, ranges).
+abbrev pub timersInRange : Timers → Bool
+timersInRange t = both (leb (t .write) writeTime) (both (leb (t .hold) resetHold) (leb (t .watchdog .left) longWatch))
+
+-- The eight ranges: counter, bits, three times, part, select, stored byte (State and time, ranges).
 unfoldable pub inRange : State → Bool
 inRange s =
-    every
-    (ltb (s .device .counter .0) (kindOf (s .part) .size)
-    ∷ leb (s .wire .frame .bits) mostBits
-    ∷ leb (s .timers .write) writeTime
-    ∷ leb (s .timers .hold) resetHold
-    ∷ leb (s .timers .watchdog .left) longWatch
-    ∷ known (s .part)
-    ∷ leb (s .select) mostSelect
-    ∷ storable (s .device .control .stored)
-    ∷ [])
+    both (ltb (s .device .counter .0) (kindOf (s .part) .size))
+    (both (leb (s .wire .frame .bits) mostBits)
+    (both (timersInRange (s .timers))
+    (both (known (s .part))
+    (both (leb (s .select) mostSelect)
+    (storable (s .device .control .stored))))))
 
 -- Refusals 9 and 10 at one sample, in this order; otherwise what the later samples say (Refusal numbers).
 abbrev pub sampleBy : Bool → Bool → ℕ → Verdict → Verdict
-sampleBy false l at rest = refused 9 at
-sampleBy true false at rest = refused 10 at
-sampleBy true true at rest = rest
+sampleBy false l place rest = refused 9 place
+sampleBy true false place rest = refused 10 place
+sampleBy true true place rest = rest
 
--- The earliest faulty sample, its place counted from a given one; the given verdict where there is none (Refusal numbers, 9 and 10).
+-- The earliest faulty sample, places counted from the given one; where there is none, the given verdict (Refusal numbers, 9, 10).
 abbrev pub samplesOf : ℕ → List ℕ → List ℕ → Verdict → Verdict
-samplesOf at [] ls good = good
-samplesOf at (e ∷ es) [] good = good
-samplesOf at (e ∷ es) (l ∷ ls) good = sampleBy (leb e mostElapsed) (leb l mostLevel) at (samplesOf (at + 1) es ls good)
+samplesOf place [] ls good = good
+samplesOf place (e ∷ es) [] good = good
+samplesOf place (e ∷ es) (l ∷ ls) good = sampleBy (leb e mostElapsed) (leb l mostLevel) place (samplesOf (place + 1) es ls good)
 
 -- Refusals 4 to 8 in numeric order, then the samples (Refusal numbers).
 abbrev pub judgedBy : Bool → Bool → Bool → Bool → Bool → Verdict → Verdict
@@ -80,7 +85,7 @@ judgedOf s es ls array answers =
 
 -- Refusals 1 to 3 in numeric order; an accepted power-up has seen no sample (Refusal numbers, 1 to 3).
 abbrev pub powerBy : Bool → Bool → Bool → Verdict
-powerBy false s b = refused 1 0
+powerBy false s b = noPart
 powerBy true false b = refused 2 0
 powerBy true true false = refused 3 0
 powerBy true true true = accepted 0
@@ -92,4 +97,4 @@ powerOf part select stored = powerBy (known part) (leb select mostSelect) (stora
 -- The size that a part number names, or refusal 1 (Refusal numbers, 1).
 abbrev pub sizeBy : Bool → ℕ → Verdict
 sizeBy true n = accepted n
-sizeBy false n = refused 1 0
+sizeBy false n = noPart

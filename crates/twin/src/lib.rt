@@ -1,10 +1,8 @@
 // The twin of the part. Its public operations are the five names brought out here: none has a
 // `requires`, and each says for every input its whole reply and what each lent row holds at the end.
-mod answers;
 mod power;
 mod ranges;
 mod replays;
-mod sample;
 
 pub use power::Size;
 pub use power::power_up;

@@ -2,7 +2,6 @@
 use crate::ranges;
 use crate::replays::Replayed;
 use crate::replays::Reply;
-use device::register as control;
 use part::kinds;
 use part::page;
 use part::state::Control;
@@ -17,7 +16,8 @@ use part::state::Watchdog;
 use part::state::Wire;
 use part::timers;
 ghost use mathlib.Core.Path.{_≡_};
-ghost use Rattle.twin.specs.Promises.{poweredUp, PowersUp, ReadsRegister, SizesPart};
+ghost use Rattle.twin.specs.Power.{poweredUp};
+ghost use Rattle.twin.specs.Promises.{PowersUp, ReadsRegister, SizesPart};
 
 // The size of a part's array.
 pub enum Size {
@@ -74,7 +74,7 @@ fn refuse(number: u8) -> Replayed
 {
     Replayed {
         reply: Reply::Refused(number, 0),
-        state: powered_up(4323, 0, 0),
+        state: powered_up(kinds::X4323, 0, 0),
     }
 }
 

@@ -1,10 +1,12 @@
 // The ranges of a state's fields.
 use part::kinds;
 use part::state::State;
+use part::state::Timers;
 use part::timers;
 ghost use mathlib.Core.Path.{_≡_};
 ghost use mathlib.Core.Bool.{Bool};
-ghost use Rattle.twin.specs.Refusals.{inRange, storable};
+ghost use Rattle.part.specs.Cases.{both};
+ghost use Rattle.twin.specs.Refusals.{storable, timersInRange, inRange};
 
 pub const MOST_SELECT: u8 = 3;
 
@@ -16,6 +18,26 @@ pub fn is_storable(stored: u8) -> bool
     stored / 2 % 4 == 0
 }
 
+fn both_hold(a: bool, b: bool) -> bool
+    ensures { λ r. ⌜ r ≡ both a b ⌝ }
+{
+    if a {
+        return b;
+    }
+    false
+}
+
+fn times_in_range(t: Timers) -> bool
+    ensures { λ r. ⌜ r ≡ timersInRange t ⌝ }
+{
+    let watchdog = t.watchdog;
+    let hold = both_hold(
+        t.hold <= timers::RESET_HOLD,
+        watchdog.left <= timers::LONG_WATCH,
+    );
+    both_hold(t.write <= timers::WRITE_TIME, hold)
+}
+
 pub fn in_range(s: State) -> bool
     ensures { λ r. ⌜ r ≡ inRange s ⌝ }
 {
@@ -25,28 +47,10 @@ pub fn in_range(s: State) -> bool
     let control = device.control;
     let wire = s.wire;
     let frame = wire.frame;
-    let times = s.timers;
-    let watchdog = times.watchdog;
-    if counter.0 >= kind.size {
-        return false;
-    }
-    if frame.bits > MOST_BITS {
-        return false;
-    }
-    if times.write > timers::WRITE_TIME {
-        return false;
-    }
-    if times.hold > timers::RESET_HOLD {
-        return false;
-    }
-    if watchdog.left > timers::LONG_WATCH {
-        return false;
-    }
-    if kind.size == 0 {
-        return false;
-    }
-    if s.select > MOST_SELECT {
-        return false;
-    }
-    is_storable(control.stored)
+    let stored = is_storable(control.stored);
+    let select = both_hold(s.select <= MOST_SELECT, stored);
+    let part = both_hold(0 < kind.size, select);
+    let times = both_hold(times_in_range(s.timers), part);
+    let bits = both_hold(frame.bits <= MOST_BITS, times);
+    both_hold(counter.0 < kind.size, bits)
 }

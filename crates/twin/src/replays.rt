@@ -1,9 +1,9 @@
 // Replay: refusals first, then sample by sample.
-use crate::answers;
 use crate::ranges;
-use crate::sample;
 use part::kinds;
 use part::state::State;
+use sample::answers;
+use sample::steps;
 ghost use mathlib.Core.Path.{_≡_};
 ghost use lib.ListN.{length};
 ghost use Rattle.twin.specs.Refusals.{accepted, meant, samplesOf, judgedOf};
@@ -77,7 +77,7 @@ fn run(s: State, elapsed: &[u32], levels: &[u8], array: &mut [u8], row: &mut [u8
     let mut state = s;
     let mut i = 0;
     while i < levels.len() {
-        state = sample::step(state, elapsed[i], levels[i], array);
+        state = steps::step(state, elapsed[i], levels[i], array);
         row[i] = answers::answer(state);
         i += 1;
     }

@@ -1,36 +1,27 @@
+-- `wire::fall_frame` meets its contract.
 use borrow.Author.Tests.{lt-ltb, le-ltb}
 use Rattle.wire.specs.Sign.{fallFrame}
 use borrow.Author.Needs.{needs}
 use Rattle.wire.proofs.fall_frame.Statement.{statement}
 use Rattle.wire.proofs.fall_frame.Tie as tie
-use Rattle.wire.proofs.fall_frame.Reads as reads
-use Rattle.wire.proofs.fall_frame.Lts as lts
-use Rattle.wire.proofs.clean.Reads as clean-reads
-use Rattle.wire.proofs.push.Reads as push-reads
 
--- src/lib.rt:71:23
 add-t4 : tie.Need-add-t4
 add-t4 c = search needs
 
--- src/lib.rt:72:24
 push-requires : tie.Need-push-requires
 push-requires c κs = search needs
 
--- src/lib.rt:68:13
 returns : tie.Need-returns
 unfolding fallFrame
 returns c = rw (c .before .before .before .before .if1 .taken, lt-ltb _ _ (c .before .before .if2 .taken), c .push .ensures)
 
--- src/lib.rt:75:9
 clean-requires : tie.Need-clean-requires
 clean-requires c κs = search needs
 
--- src/lib.rt:75:9
 returns-2 : tie.Need-returns-2
 unfolding fallFrame
 returns-2 c = rw (c .before .before .before .if1 .taken, le-ltb _ _ (c .before .if2 .left), c .clean .ensures)
 
--- src/lib.rt:63:1
 returns-3 : tie.Need-returns-3
 unfolding fallFrame
 returns-3 c = rw (c .if1 .left)

@@ -1,82 +1,62 @@
+-- `wire::see` meets its contract.
 use Rattle.wire.specs.Sign.{signOf, wireOf}
 use borrow.Author.Needs.{needs}
 use Rattle.wire.proofs.see.Statement.{statement}
 use Rattle.wire.proofs.see.Tie as tie
-use Rattle.wire.proofs.see.Reads as reads
-use Rattle.wire.proofs.see.Lts as lts
-use Rattle.wire.proofs.cut.Reads as cut-reads
-use Rattle.wire.proofs.fall_frame.Reads as fall-frame-reads
-use Rattle.wire.proofs.fall_sign.Reads as fall-sign-reads
-use Rattle.wire.proofs.quiet.Reads as quiet-reads
 
--- src/lib.rt:91:21
 quiet-requires : tie.Need-quiet-requires
 quiet-requires c κs = search needs
 
--- src/lib.rt:91:21
 returns : tie.Need-returns
 unfolding signOf wireOf
 returns c =
     rw (c .quiet .ensures, c .before .before .before .before .if1 .taken, c .before .before .before .if2 .taken, c .before .before .if3 .taken, c .before .if4 .taken)
 
--- src/lib.rt:93:17
 cut-requires : tie.Need-cut-requires
 cut-requires c κs = search needs
 
--- src/lib.rt:93:17
 returns-2 : tie.Need-returns-2
 unfolding signOf wireOf
 returns-2 c =
     rw (c .cut .ensures, c .before .before .before .before .if1 .taken, c .before .before .before .if2 .taken, c .before .before .if3 .taken, c .before .if4 .left)
 
--- src/lib.rt:96:17
 cut-requires-2 : tie.Need-cut-requires-2
 cut-requires-2 c κs = search needs
 
--- src/lib.rt:96:17
 returns-3 : tie.Need-returns-3
 unfolding signOf wireOf
 returns-3 c =
     rw (c .cut2 .ensures, c .before .before .before .before .if1 .taken, c .before .before .before .if2 .taken, c .before .before .if3 .left, c .before .if5 .taken)
 
--- src/lib.rt:98:13
 quiet-requires-2 : tie.Need-quiet-requires-2
 quiet-requires-2 c κs = search needs
 
--- src/lib.rt:98:13
 returns-4 : tie.Need-returns-4
 unfolding signOf wireOf
 returns-4 c =
     rw (c .quiet2 .ensures, c .before .before .before .before .if1 .taken, c .before .before .before .if2 .taken, c .before .before .if3 .left, c .before .if5 .left)
 
--- src/lib.rt:101:19
 fall-sign-requires : tie.Need-fall-sign-requires
 fall-sign-requires c κs = search needs
 
--- src/lib.rt:104:24
 fall-frame-requires : tie.Need-fall-frame-requires
 fall-frame-requires c κs = search needs
 
--- src/lib.rt:100:9
 returns-5 : tie.Need-returns-5
 unfolding signOf wireOf
 returns-5 c =
     rw (c .fall-frame .ensures, c .before .fall-sign .ensures, c .before .before .before .if1 .taken, c .before .before .if2 .left)
 
--- src/lib.rt:112:9
 quiet-requires-3 : tie.Need-quiet-requires-3
 quiet-requires-3 c κs = search needs
 
--- src/lib.rt:112:9
 returns-6 : tie.Need-returns-6
 unfolding signOf wireOf
 returns-6 c = rw (c .quiet3 .ensures, c .before .before .if1 .left, c .before .if6 .taken)
 
--- src/lib.rt:114:5
 quiet-requires-4 : tie.Need-quiet-requires-4
 quiet-requires-4 c κs = search needs
 
--- src/lib.rt:81:1
 returns-7 : tie.Need-returns-7
 unfolding signOf wireOf
 returns-7 c = rw (c .quiet4 .ensures, c .before .before .if1 .left, c .before .if6 .left)

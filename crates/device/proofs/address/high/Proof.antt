@@ -1,12 +1,9 @@
-use borrow.Author.Needs.{needs}
+-- `device::address::high` meets its contract.
 use mathlib.Core.Path.{refl}
 use Rattle.device.specs.Bytes.{highOf}
 use Rattle.device.proofs.address.high.Statement.{statement}
 use Rattle.device.proofs.address.high.Tie as tie
-use Rattle.device.proofs.address.high.Reads as reads
-use Rattle.device.proofs.address.high.Lts as lts
 
--- src/address.rt:81:1
 returns : tie.Need-returns
 unfolding highOf
 returns c = refl

@@ -1,15 +1,11 @@
-use borrow.Author.Needs.{needs}
+-- `device::address::is_ours` meets its contract.
 use borrow.Author.Tests.{eq-eqb, ne-eqb}
 use Rattle.device.proofs.address.is_ours.Statement.{statement}
 use Rattle.device.proofs.address.is_ours.Tie as tie
-use Rattle.device.proofs.address.is_ours.Reads as reads
-use Rattle.device.proofs.address.is_ours.Lts as lts
 
--- src/address.rt:45:1
 returns : tie.Need-returns
 returns c = rw (eq-eqb _ _ (c .if1 .taken))
 
--- src/address.rt:45:1
 returns-2 : tie.Need-returns-2
 returns-2 c = rw (ne-eqb _ _ (c .if1 .left))
 

@@ -1,56 +1,43 @@
+-- `device::address::slave` meets its contract.
 use borrow.Author.Tests.{eq-eqb, ne-eqb}
 use Rattle.device.specs.Bytes.{slaveOf}
 use borrow.Author.Needs.{needs}
 use Rattle.device.proofs.address.slave.Statement.{statement}
 use Rattle.device.proofs.address.slave.Tie as tie
-use Rattle.device.proofs.address.slave.Reads as reads
-use Rattle.device.proofs.address.slave.Lts as lts
-use Rattle.device.proofs.address.acknowledge.Reads as acknowledge-reads
-use Rattle.device.proofs.address.is_ours.Reads as is-ours-reads
-use Rattle.device.proofs.address.turn.Reads as turn-reads
 
--- src/address.rt:61:8
 is-ours-requires : tie.Need-is-ours-requires
 is-ours-requires c κs = search needs
 
--- src/address.rt:64:21
 acknowledge-requires : tie.Need-acknowledge-requires
 acknowledge-requires c κs = search needs
 
--- src/address.rt:66:17
 returns : tie.Need-returns
 unfolding slaveOf
 returns c =
     rw (← c .before .before .before .before .is-ours .ensures, c .before .before .before .if1 .taken, eq-eqb _ _ (c .before .before .if2 .taken), c .before .if3 .taken, c .acknowledge .ensures)
 
--- src/address.rt:68:17
 acknowledge-requires-2 : tie.Need-acknowledge-requires-2
 acknowledge-requires-2 c κs = search needs
 
--- src/address.rt:70:13
 returns-2 : tie.Need-returns-2
 unfolding slaveOf
 returns-2 c =
     rw (← c .before .before .before .before .is-ours .ensures, c .before .before .before .if1 .taken, eq-eqb _ _ (c .before .before .if2 .taken), c .before .if3 .left, c .acknowledge2 .ensures)
 
--- src/address.rt:72:13
 acknowledge-requires-3 : tie.Need-acknowledge-requires-3
 acknowledge-requires-3 c κs = search needs
 
--- src/address.rt:74:9
 returns-3 : tie.Need-returns-3
 unfolding slaveOf
 returns-3 c =
     rw (← c .before .before .before .is-ours .ensures, c .before .before .if1 .taken, ne-eqb _ _ (c .before .if2 .left), c .acknowledge3 .ensures)
 
--- src/address.rt:76:9
-turn-requires : tie.Need-turn-requires
-turn-requires c κs = search needs
+rest-requires : tie.Need-rest-requires
+rest-requires c κs = search needs
 
--- src/address.rt:55:1
 returns-4 : tie.Need-returns-4
 unfolding slaveOf
-returns-4 c = rw (← c .before .before .is-ours .ensures, c .before .if1 .left, c .turn .ensures)
+returns-4 c = rw (← c .before .before .is-ours .ensures, c .before .if1 .left, c .rest .ensures)
 
 pub slave-spec : {M : Type 1} → statement M
 slave-spec =
@@ -63,5 +50,5 @@ slave-spec =
     returns-2
     acknowledge-requires-3
     returns-3
-    turn-requires
+    rest-requires
     returns-4)

@@ -1,96 +1,74 @@
+-- `device::bits::bit` meets its contract.
 use Rattle.device.specs.Bytes.{bitOf}
 use borrow.Author.Needs.{needs}
 use Rattle.device.proofs.bits.bit.Statement.{statement}
 use Rattle.device.proofs.bits.bit.Tie as tie
-use Rattle.device.proofs.bits.bit.Reads as reads
-use Rattle.device.proofs.bits.bit.Lts as lts
-use Rattle.device.proofs.bits.next_bit.Reads as next-bit-reads
 
--- src/bits.rt:61:24
 enum-told : tie.Need-enum-told
 enum-told c = search needs
 
--- src/bits.rt:61:24
 next-bit-requires : tie.Need-next-bit-requires
 next-bit-requires c κs = search needs
 
--- src/bits.rt:62:32
 enum-told-2 : tie.Need-enum-told-2
 enum-told-2 c = search needs
 
--- src/bits.rt:62:32
 next-bit-requires-2 : tie.Need-next-bit-requires-2
 next-bit-requires-2 c κs = search needs
 
--- src/bits.rt:63:24
 enum-told-3 : tie.Need-enum-told-3
 enum-told-3 c = search needs
 
--- src/bits.rt:64:26
 enum-told-4 : tie.Need-enum-told-4
 enum-told-4 c = search needs
 
--- src/bits.rt:65:25
 enum-told-5 : tie.Need-enum-told-5
 enum-told-5 c = search needs
 
--- src/bits.rt:66:24
 enum-told-6 : tie.Need-enum-told-6
 enum-told-6 c = search needs
 
--- src/bits.rt:67:23
 enum-told-7 : tie.Need-enum-told-7
 enum-told-7 c = search needs
 
--- src/bits.rt:68:24
 enum-told-8 : tie.Need-enum-told-8
 enum-told-8 c = search needs
 
--- src/bits.rt:69:28
 enum-told-9 : tie.Need-enum-told-9
 enum-told-9 c = search needs
 
--- src/bits.rt:55:1
 returns : tie.Need-returns
 unfolding bitOf
 returns c = rw (c .next-bit .ensures, c .before .enum-told .given .1)
 
--- src/bits.rt:55:1
 returns-2 : tie.Need-returns-2
 unfolding bitOf
 returns-2 c = rw (c .next-bit2 .ensures, c .before .enum-told2 .given .1)
 
--- src/bits.rt:55:1
 returns-3 : tie.Need-returns-3
 unfolding bitOf
 returns-3 c = rw (c .enum-told3 .given .1)
 
--- src/bits.rt:55:1
 returns-4 : tie.Need-returns-4
 unfolding bitOf
 returns-4 c = rw (c .enum-told4 .given .1)
 
--- src/bits.rt:55:1
 returns-5 : tie.Need-returns-5
 unfolding bitOf
 returns-5 c = rw (c .enum-told5 .given .1)
 
--- src/bits.rt:55:1
 returns-6 : tie.Need-returns-6
 unfolding bitOf
 returns-6 c = rw (c .enum-told6 .given .1)
 
--- src/bits.rt:55:1
 returns-7 : tie.Need-returns-7
 unfolding bitOf
 returns-7 c = rw (c .enum-told7 .given .1)
 
--- src/bits.rt:55:1
 returns-8 : tie.Need-returns-8
 unfolding bitOf
 returns-8 c = rw (c .enum-told8 .given .1)
 
--- src/bits.rt:55:1
 returns-9 : tie.Need-returns-9
 unfolding bitOf
 returns-9 c = rw (c .enum-told9 .given .1)

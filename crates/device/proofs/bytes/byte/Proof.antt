@@ -1,122 +1,89 @@
+-- `device::bytes::byte` meets its contract.
 use Rattle.device.specs.Bytes.{byteOf}
 use borrow.Author.Needs.{needs}
 use Rattle.device.proofs.bytes.byte.Statement.{statement}
 use Rattle.device.proofs.bytes.byte.Tie as tie
-use Rattle.device.proofs.bytes.byte.Reads as reads
-use Rattle.device.proofs.bytes.byte.Lts as lts
-use Rattle.device.proofs.address.high.Reads as high-reads
-use Rattle.device.proofs.address.low.Reads as low-reads
-use Rattle.device.proofs.address.slave.Reads as slave-reads
-use Rattle.device.proofs.bytes.data.Reads as data-reads
-use Rattle.device.proofs.bytes.register.Reads as register-reads
-use Rattle.device.proofs.bytes.register_sent.Reads as register-sent-reads
-use Rattle.device.proofs.bytes.sent.Reads as sent-reads
 
--- src/bytes.rt:105:24
 enum-told : tie.Need-enum-told
 enum-told c = search needs
 
--- src/bytes.rt:106:26
 enum-told-2 : tie.Need-enum-told-2
 enum-told-2 c = search needs
 
--- src/bytes.rt:107:25
 enum-told-3 : tie.Need-enum-told-3
 enum-told-3 c = search needs
 
--- src/bytes.rt:107:25
 slave-requires : tie.Need-slave-requires
 slave-requires c κs = search needs
 
--- src/bytes.rt:108:24
 enum-told-4 : tie.Need-enum-told-4
 enum-told-4 c = search needs
 
--- src/bytes.rt:108:24
 high-requires : tie.Need-high-requires
 high-requires c κs = search needs
 
--- src/bytes.rt:109:23
 enum-told-5 : tie.Need-enum-told-5
 enum-told-5 c = search needs
 
--- src/bytes.rt:109:23
 low-requires : tie.Need-low-requires
 low-requires c κs = search needs
 
--- src/bytes.rt:110:24
 enum-told-6 : tie.Need-enum-told-6
 enum-told-6 c = search needs
 
--- src/bytes.rt:110:24
 data-requires : tie.Need-data-requires
 data-requires c κs = search needs
 
--- src/bytes.rt:111:28
 enum-told-7 : tie.Need-enum-told-7
 enum-told-7 c = search needs
 
--- src/bytes.rt:111:28
 register-requires : tie.Need-register-requires
 register-requires c κs = search needs
 
--- src/bytes.rt:112:24
 enum-told-8 : tie.Need-enum-told-8
 enum-told-8 c = search needs
 
--- src/bytes.rt:112:24
 sent-requires : tie.Need-sent-requires
 sent-requires c κs = search needs
 
--- src/bytes.rt:113:32
 enum-told-9 : tie.Need-enum-told-9
 enum-told-9 c = search needs
 
--- src/bytes.rt:113:32
 register-sent-requires : tie.Need-register-sent-requires
 register-sent-requires c κs = search needs
 
--- src/bytes.rt:99:1
 returns : tie.Need-returns
 unfolding byteOf
 returns c = rw (c .enum-told .given .1)
 
--- src/bytes.rt:99:1
 returns-2 : tie.Need-returns-2
 unfolding byteOf
 returns-2 c = rw (c .enum-told2 .given .1)
 
--- src/bytes.rt:99:1
 returns-3 : tie.Need-returns-3
 unfolding byteOf
 returns-3 c = rw (c .slave .ensures, c .before .enum-told3 .given .1)
 
--- src/bytes.rt:99:1
 returns-4 : tie.Need-returns-4
 unfolding byteOf
 returns-4 c = rw (c .high .ensures, c .before .enum-told4 .given .1)
 
--- src/bytes.rt:99:1
 returns-5 : tie.Need-returns-5
 unfolding byteOf
 returns-5 c = rw (c .low .ensures, c .before .enum-told5 .given .1)
 
--- src/bytes.rt:99:1
 returns-6 : tie.Need-returns-6
 unfolding byteOf
 returns-6 c = rw (c .«data» .ensures, c .before .enum-told6 .given .1)
 
--- src/bytes.rt:99:1
 returns-7 : tie.Need-returns-7
 unfolding byteOf
 returns-7 c = rw (c .register .ensures, c .before .enum-told7 .given .1)
 
--- src/bytes.rt:99:1
 returns-8 : tie.Need-returns-8
 unfolding byteOf
 returns-8 c = rw (c .sent .ensures, c .before .enum-told8 .given .1)
 
--- src/bytes.rt:99:1
 returns-9 : tie.Need-returns-9
 unfolding byteOf
 returns-9 c = rw (c .register-sent .ensures, c .before .enum-told9 .given .1)

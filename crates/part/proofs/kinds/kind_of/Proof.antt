@@ -1,6 +1,5 @@
 -- `part::kinds::kind_of` meets its contract: each arm's number decides the two tests of `kindOf`.
 use borrow.Author.Tests.{eq-eqb, ne-eqb}
-use mathlib.Core.Path.{subst}
 use Rattle.part.specs.Kind.{kindOf}
 use Rattle.part.proofs.kinds.kind_of.Statement.{statement}
 use Rattle.part.proofs.kinds.kind_of.Tie as tie

@@ -1,43 +1,34 @@
-use borrow.Author.Needs.{needs}
+-- `part::lock::extent_of` meets its contract.
 use mathlib.Core.Path.{sym}
 use Rattle.part.proofs.Laws.{code-none, code-beyond, past-seven}
 use native.Mathlib.Omega.{arith}
 use Rattle.part.specs.Lock.{extentOf}
 use Rattle.part.proofs.lock.extent_of.Statement.{statement}
 use Rattle.part.proofs.lock.extent_of.Tie as tie
-use Rattle.part.proofs.lock.extent_of.Reads as reads
-use Rattle.part.proofs.lock.extent_of.Lts as lts
 
--- src/lock.rt:21:1
 returns : tie.Need-returns
 unfolding extentOf
 returns c = rw (c .before .match .keys1)
 
--- src/lock.rt:21:1
 returns-2 : tie.Need-returns-2
 unfolding extentOf
 returns-2 c = rw (c .match .keys2)
 
--- src/lock.rt:21:1
 returns-3 : tie.Need-returns-3
 unfolding extentOf
 returns-3 c = rw (c .match .keys3)
 
--- src/lock.rt:21:1
 returns-4 : tie.Need-returns-4
 unfolding extentOf
 returns-4 c = rw (c .match .keys4)
 
--- src/lock.rt:21:1
 returns-5 : tie.Need-returns-5
 unfolding extentOf
 returns-5 c = rw (c .match .keys5)
 
--- src/lock.rt:21:1
 returns-6 : tie.Need-returns-6
 returns-6 c = sym (code-none (c .before .before .args .kind) (c .before .before .args .code) (omega arith))
 
--- src/lock.rt:21:1
 returns-7 : tie.Need-returns-7
 returns-7 c = sym (code-beyond (c .before .before .args .kind) (c .before .before .args .code) (past-seven _ (omega arith) (c .before .match .rest .0 .0 .0 .0 .1) (c .before .match .rest .0 .0 .0 .1) (c .before .match .rest .0 .0 .1) (c .before .match .rest .0 .1) (c .before .match .rest .1)))
 

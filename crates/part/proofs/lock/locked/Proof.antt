@@ -1,28 +1,21 @@
+-- `part::lock::locked` meets its contract.
 use borrow.Author.Tests.{le-leb, lt-leb}
 use Rattle.part.specs.Lock.{lockedOf}
 use borrow.Author.Needs.{needs}
 use Rattle.part.proofs.lock.locked.Statement.{statement}
 use Rattle.part.proofs.lock.locked.Tie as tie
-use Rattle.part.proofs.lock.locked.Reads as reads
-use Rattle.part.proofs.lock.locked.Lts as lts
-use Rattle.part.proofs.lock.block_code.Reads as block-code-reads
-use Rattle.part.proofs.lock.extent_of.Reads as extent-of-reads
 
--- src/lock.rt:42:29
 block-code-requires : tie.Need-block-code-requires
 block-code-requires c κs = search needs
 
--- src/lock.rt:42:9
 extent-of-requires : tie.Need-extent-of-requires
 extent-of-requires c κs = search needs
 
--- src/lock.rt:39:1
 returns : tie.Need-returns
 unfolding lockedOf
 returns c =
     rw (← c .before .before .before .before .before .block-code .ensures, ← c .before .before .before .before .extent-of .ensures, le-leb _ _ (c .before .if1 .taken))
 
--- src/lock.rt:39:1
 returns-2 : tie.Need-returns-2
 unfolding lockedOf
 returns-2 c =

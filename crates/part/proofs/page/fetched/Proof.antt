@@ -1,25 +1,20 @@
+-- `part::page::fetched` meets its contract.
 use denote.Ref.{now}
 use mathlib.Core.Path.{sym}
 use lib.ListN.{List·getD-eq-default}
 use borrow.Author.Needs.{needs}
 use Rattle.part.proofs.page.fetched.Statement.{statement}
 use Rattle.part.proofs.page.fetched.Tie as tie
-use Rattle.part.proofs.page.fetched.Reads as reads
-use Rattle.part.proofs.page.fetched.Lts as lts
 
--- src/page.rt:84:17
 cast-index : tie.Need-cast-index
 cast-index c = search needs
 
--- src/page.rt:86:16
 shared-slice-read-result : tie.Need-shared-slice-read-result
 shared-slice-read-result c = search needs
 
--- src/page.rt:86:9
 returns : tie.Need-returns
 returns c = search needs
 
--- src/page.rt:81:1
 returns-2 : tie.Need-returns-2
 returns-2 c = sym (List·getD-eq-default (now (c .before .before .args .array)) 0 (c .if1 .left))
 

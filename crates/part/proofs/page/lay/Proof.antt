@@ -1,19 +1,15 @@
 -- `part::page::lay` meets its contract: what is laid so far, and what is left to lay over the rest, is the whole.
 use Prim.Native.Nat.{_≤_, _<_, _-_}
-use mathlib.Core.Path.{_≡_, refl, sym, _∙_, ap}
-use mathlib.Core.List.{List, _++_, append-nil}
+use mathlib.Core.Path.{_≡_, refl, _∙_}
+use mathlib.Core.List.{_++_}
 use native.Mathlib.Omega.{arith}
 use native.Mathlib.Numerals.{add-one}
 use borrow.Author.Needs.{needs}
-use lib.ListN.{length, drop, take, drop-of-length-le, take-append-drop}
-use lib.Seq.{take-all}
+use lib.ListN.{length, drop, take, length-set}
 use Rattle.part.specs.Page.{layOf}
-use Rattle.part.proofs.Laws.{lay-short, lay-whole, lay-turn, length-put}
+use Rattle.part.proofs.Laws.{lay-short, lay-whole, lay-turn}
 use Rattle.part.proofs.page.lay.Statement.{statement}
 use Rattle.part.proofs.page.lay.Tie as tie
-use Rattle.part.proofs.page.lay.Reads as reads
-use Rattle.part.proofs.page.lay.Lts as lts
-use Rattle.part.proofs.page.put.Reads as put-reads
 
 abbrev Inv-loop : tie.InvT-loop
 Inv-loop page₀ load i₀ page i =
@@ -59,10 +55,10 @@ loop-again c =
     let q : at .i < length (load .bytes) = omega arith in
     let r : at .i < length (at .page) = omega arith in (
       omega arith,
-      rw (c .before .before .put .ensures, length-put) (inv .1),
+      rw (c .before .before .put .ensures, length-set) (inv .1),
       inv .2,
       inv .3,
-      rw (add-one, c .before .before .put .ensures) (lay-turn _ _ (load .marks) (load .bytes) (at .page) (at .i) p q r refl refl ∙ inv .4),
+      rw (add-one, c .before .before .put .ensures) (lay-turn (load .marks) (load .bytes) (at .page) (at .i) _ p q r refl ∙ inv .4),
     )
 
 same-length-2 : tie.Need-same-length-2 Inv-loop μ-loop

@@ -9,8 +9,6 @@ use Rattle.part.specs.Cases.{some}
 use Rattle.part.proofs.Laws.{some-at, some-past}
 use Rattle.part.proofs.page.marked.Statement.{statement}
 use Rattle.part.proofs.page.marked.Tie as tie
-use Rattle.part.proofs.page.marked.Reads as reads
-use Rattle.part.proofs.page.marked.Lts as lts
 
 abbrev Inv-loop : tie.InvT-loop
 Inv-loop marks i₀ i = (i ≤ 64) × (length marks ≡ 64) × (some marks ≡ some (drop i marks))

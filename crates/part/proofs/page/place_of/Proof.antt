@@ -1,19 +1,15 @@
+-- `part::page::place_of` meets its contract.
 use native.Mathlib.Nat.{mod-zero}
 use borrow.Author.Needs.{needs}
 use Rattle.part.proofs.page.place_of.Statement.{statement}
 use Rattle.part.proofs.page.place_of.Tie as tie
-use Rattle.part.proofs.page.place_of.Reads as reads
-use Rattle.part.proofs.page.place_of.Lts as lts
 
--- src/page.rt:16:9
 returns : tie.Need-returns
 returns c = rw (c .if1 .taken, mod-zero)
 
--- src/page.rt:18:11
 rem-t5 : tie.Need-rem-t5
 rem-t5 c = search needs
 
--- src/page.rt:11:1
 returns-2 : tie.Need-returns-2
 returns-2 c = search needs
 

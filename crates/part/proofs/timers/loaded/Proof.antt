@@ -1,29 +1,23 @@
-use borrow.Author.Needs.{needs}
+-- `part::timers::loaded` meets its contract.
 use Prim.Native.Nat.{_/_, _%_}
 use mathlib.Core.Path.{_≡_}
 use native.Mathlib.Omega.{arith}
 use Rattle.part.specs.Timers.{loadedOf}
 use Rattle.part.proofs.timers.loaded.Statement.{statement}
 use Rattle.part.proofs.timers.loaded.Tie as tie
-use Rattle.part.proofs.timers.loaded.Reads as reads
-use Rattle.part.proofs.timers.loaded.Lts as lts
 
--- src/timers.rt:21:1
 returns : tie.Need-returns
 unfolding loadedOf
 returns c = rw (c .match .keys1)
 
--- src/timers.rt:21:1
 returns-2 : tie.Need-returns-2
 unfolding loadedOf
 returns-2 c = rw (c .match .keys2)
 
--- src/timers.rt:21:1
 returns-3 : tie.Need-returns-3
 unfolding loadedOf
 returns-3 c = rw (c .match .keys3)
 
--- src/timers.rt:21:1
 returns-4 : tie.Need-returns-4
 unfolding loadedOf
 returns-4 c =

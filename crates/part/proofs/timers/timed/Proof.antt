@@ -1,57 +1,44 @@
-use borrow.Author.Tests.{eq-eqb, ne-eqb}
+-- `part::timers::timed` meets its contract.
+use borrow.Author.Tests.{ne-eqb}
 use Rattle.part.specs.Timers.{timedOf}
 use borrow.Author.Needs.{needs}
 use Rattle.part.proofs.timers.timed.Statement.{statement}
 use Rattle.part.proofs.timers.timed.Tie as tie
-use Rattle.part.proofs.timers.timed.Reads as reads
-use Rattle.part.proofs.timers.timed.Lts as lts
-use Rattle.part.proofs.timers.less.Reads as less-reads
-use Rattle.part.proofs.timers.loaded.Reads as loaded-reads
 
--- src/timers.rt:49:9
 less-requires : tie.Need-less-requires
 less-requires c κs = search needs
 
--- src/timers.rt:54:13
 returns : tie.Need-returns
 unfolding timedOf
 returns c = rw (c .before .before .less .ensures, c .before .if1 .taken, c .if2 .taken)
 
--- src/timers.rt:56:13
 less-requires-2 : tie.Need-less-requires-2
 less-requires-2 c κs = search needs
 
--- src/timers.rt:59:17
 loaded-requires : tie.Need-loaded-requires
 loaded-requires c κs = search needs
 
--- src/timers.rt:62:13
 returns-2 : tie.Need-returns-2
 unfolding timedOf
 returns-2 c =
     rw (c .before .before .before .before .before .less .ensures, c .before .before .before .before .if1 .taken, c .before .before .before .if2 .left, ← c .before .before .less2 .ensures, c .before .if3 .taken, c .loaded .ensures)
 
--- src/timers.rt:64:9
 returns-3 : tie.Need-returns-3
 unfolding timedOf
 returns-3 c =
     rw (c .before .before .before .before .less .ensures, c .before .before .before .if1 .taken, c .before .before .if2 .left, ← c .before .less2 .ensures, ne-eqb _ _ (c .if3 .left), c .before .less2 .ensures)
 
--- src/timers.rt:68:13
 less-requires-3 : tie.Need-less-requires-3
 less-requires-3 c κs = search needs
 
--- src/timers.rt:73:13
 returns-4 : tie.Need-returns-4
 unfolding timedOf
 returns-4 c = rw (c .before .before .before .before .before .before .less .ensures, c .before .before .before .before .before .if1 .left, c .before .before .before .if4 .taken, ← c .before .before .less3 .ensures, c .if5 .taken)
 
--- src/timers.rt:75:9
 returns-5 : tie.Need-returns-5
 unfolding timedOf
 returns-5 c = rw (c .before .before .before .before .before .before .less .ensures, c .before .before .before .before .before .if1 .left, c .before .before .before .if4 .taken, ← c .before .before .less3 .ensures, ne-eqb _ _ (c .if5 .left), c .before .before .less3 .ensures)
 
--- src/timers.rt:46:1
 returns-6 : tie.Need-returns-6
 unfolding timedOf
 returns-6 c = rw (c .before .before .before .less .ensures, c .before .before .if1 .left, c .if4 .left)

@@ -1,25 +1,17 @@
+-- `twin::power::power_up` meets its contract.
 use borrow.Author.Tests.{le-leb, lt-leb}
 use Rattle.twin.specs.Refusals.{meant, powerOf}
 use Rattle.twin.proofs.Laws.{not-zero}
 use borrow.Author.Needs.{needs}
 use Rattle.twin.proofs.power.power_up.Statement.{statement}
 use Rattle.twin.proofs.power.power_up.Tie as tie
-use Rattle.twin.proofs.power.power_up.Reads as reads
-use Rattle.twin.proofs.power.power_up.Lts as lts
-use Rattle.part.proofs.kinds.kind_of.Reads as kind-of-reads
-use Rattle.twin.proofs.power.powered_up.Reads as powered-up-reads
-use Rattle.twin.proofs.power.refuse.Reads as refuse-reads
-use Rattle.twin.proofs.ranges.is_storable.Reads as is-storable-reads
 
--- src/power.rt:75:9
 kind-of-requires : tie.Need-kind-of-requires
 kind-of-requires c κs = search needs
 
--- src/power.rt:77:9
 refuse-requires : tie.Need-refuse-requires
 refuse-requires c κs = search needs
 
--- src/power.rt:77:9
 returns : tie.Need-returns
 unfolding meant powerOf
 returns c =
@@ -28,11 +20,9 @@ returns c =
       state = rw (c .refuse .ensures, ← c .before .before .before .kind-of .ensures, c .before .if1 .taken);
     }
 
--- src/power.rt:80:9
 refuse-requires-2 : tie.Need-refuse-requires-2
 refuse-requires-2 c κs = search needs
 
--- src/power.rt:80:9
 returns-2 : tie.Need-returns-2
 unfolding meant powerOf
 returns-2 c =
@@ -41,15 +31,12 @@ returns-2 c =
       state = rw (c .refuse2 .ensures, ← c .before .before .before .before .kind-of .ensures, not-zero _ (c .before .before .if1 .left), lt-leb _ _ (c .before .if2 .taken));
     }
 
--- src/power.rt:82:8
 is-storable-requires : tie.Need-is-storable-requires
 is-storable-requires c κs = search needs
 
--- src/power.rt:85:20
 powered-up-requires : tie.Need-powered-up-requires
 powered-up-requires c κs = search needs
 
--- src/power.rt:83:9
 returns-3 : tie.Need-returns-3
 unfolding meant powerOf
 returns-3 c =
@@ -58,11 +45,9 @@ returns-3 c =
       state = rw (c .powered-up .ensures, ← c .before .before .before .before .before .before .kind-of .ensures, not-zero _ (c .before .before .before .before .if1 .left), le-leb _ _ (c .before .before .before .if2 .left), ← c .before .before .is-storable .ensures, c .before .if3 .taken);
     }
 
--- src/power.rt:88:5
 refuse-requires-3 : tie.Need-refuse-requires-3
 refuse-requires-3 c κs = search needs
 
--- src/power.rt:72:1
 returns-4 : tie.Need-returns-4
 unfolding meant powerOf
 returns-4 c =

@@ -1,5 +1,5 @@
 -- `twin::replays::faults` meets its contract: what the samples left say is what all of them say.
-use Prim.Native.Nat.{_≤_, _<_, _-_, suc}
+use Prim.Native.Nat.{_≤_, _<_, _-_}
 use mathlib.Core.Path.{_≡_, refl, sym, _∙_, ap}
 use native.Mathlib.Omega.{arith}
 use native.Mathlib.Numerals.{add-one}
@@ -10,8 +10,6 @@ use Rattle.twin.specs.Refusals.{meant, samplesOf, accepted}
 use Rattle.twin.proofs.Laws.{samples-turn, samples-done}
 use Rattle.twin.proofs.replays.faults.Statement.{statement}
 use Rattle.twin.proofs.replays.faults.Tie as tie
-use Rattle.twin.proofs.replays.faults.Reads as reads
-use Rattle.twin.proofs.replays.faults.Lts as lts
 
 abbrev Inv-loop : tie.InvT-loop
 Inv-loop elapsed levels i₀ i =

@@ -1,61 +1,47 @@
+-- `twin::replays::judge` meets its contract.
 use borrow.Author.Tests.{eq-eqb, ne-eqb, le-leb, lt-leb}
 use Rattle.twin.specs.Refusals.{meant, judgedOf}
 use borrow.Author.Needs.{needs}
 use Rattle.twin.proofs.replays.judge.Statement.{statement}
 use Rattle.twin.proofs.replays.judge.Tie as tie
-use Rattle.twin.proofs.replays.judge.Reads as reads
-use Rattle.twin.proofs.replays.judge.Lts as lts
-use Rattle.part.proofs.kinds.kind_of.Reads as kind-of-reads
-use Rattle.twin.proofs.ranges.in_range.Reads as in-range-reads
-use Rattle.twin.proofs.replays.faults.Reads as faults-reads
 
--- src/replays.rt:50:9
 kind-of-requires : tie.Need-kind-of-requires
 kind-of-requires c κs = search needs
 
--- src/replays.rt:51:8
 in-range-requires : tie.Need-in-range-requires
 in-range-requires c κs = search needs
 
--- src/replays.rt:52:27
 cast-if2 : tie.Need-cast-if2
 cast-if2 c = search needs
 
--- src/replays.rt:53:13
 returns : tie.Need-returns
 unfolding meant judgedOf
 returns c =
     rw (← c .before .before .before .in-range .ensures, c .before .before .if1 .taken, ← c .before .before .before .before .kind-of .ensures, ne-eqb _ _ (c .if2 .taken))
 
--- src/replays.rt:56:13
 returns-2 : tie.Need-returns-2
 unfolding meant judgedOf
 returns-2 c =
     rw (← c .before .before .before .before .in-range .ensures, c .before .before .before .if1 .taken, ← c .before .before .before .before .before .kind-of .ensures, eq-eqb _ _ (c .before .if2 .left), ne-eqb _ _ (c .if3 .taken))
 
--- src/replays.rt:59:13
 returns-3 : tie.Need-returns-3
 unfolding meant judgedOf
 returns-3 c =
     rw (← c .before .before .before .before .before .in-range .ensures, c .before .before .before .before .if1 .taken, ← c .before .before .before .before .before .before .kind-of .ensures, eq-eqb _ _ (c .before .before .if2 .left), eq-eqb _ _ (c .before .if3 .left), lt-leb _ _ (c .if4 .taken))
 
--- src/replays.rt:62:13
 returns-4 : tie.Need-returns-4
 unfolding meant judgedOf
 returns-4 c =
     rw (← c .before .before .before .before .before .before .in-range .ensures, c .before .before .before .before .before .if1 .taken, ← c .before .before .before .before .before .before .before .kind-of .ensures, eq-eqb _ _ (c .before .before .before .if2 .left), eq-eqb _ _ (c .before .before .if3 .left), le-leb _ _ (c .before .if4 .left), ne-eqb _ _ (c .if5 .taken))
 
--- src/replays.rt:64:9
 faults-requires : tie.Need-faults-requires
 faults-requires c κs = search needs
 
--- src/replays.rt:64:9
 returns-5 : tie.Need-returns-5
 unfolding judgedOf
 returns-5 c =
     rw (← c .before .before .before .before .before .before .before .in-range .ensures, c .before .before .before .before .before .before .if1 .taken, ← c .before .before .before .before .before .before .before .before .kind-of .ensures, eq-eqb _ _ (c .before .before .before .before .if2 .left), eq-eqb _ _ (c .before .before .before .if3 .left), le-leb _ _ (c .before .before .if4 .left), eq-eqb _ _ (c .before .if5 .left)) (c .faults .ensures)
 
--- src/replays.rt:47:1
 returns-6 : tie.Need-returns-6
 unfolding meant judgedOf
 returns-6 c = rw (← c .before .in-range .ensures, c .if1 .left)

@@ -1,43 +1,31 @@
-use mathlib.Core.Path.{_≡_, refl}
+-- `twin::replays::replay` meets its contract.
 use denote.Ref.{now}
-use Rattle.twin.specs.Refusals.{judgedOf, accepted, refused}
 use Rattle.twin.proofs.Laws.{is-accepted, is-refused, rows-equal}
 use borrow.Author.Needs.{needs}
 use Rattle.twin.proofs.replays.replay.Statement.{statement}
 use Rattle.twin.proofs.replays.replay.Tie as tie
-use Rattle.twin.proofs.replays.replay.Reads as reads
-use Rattle.twin.proofs.replays.replay.Lts as lts
-use Rattle.twin.proofs.replays.judge.Reads as judge-reads
-use Rattle.twin.proofs.replays.run.Reads as run-reads
 
--- src/replays.rt:90:9
 judge-requires : tie.Need-judge-requires
 judge-requires c κs = search needs
 
--- src/replays.rt:93:52
 enum-told : tie.Need-enum-told
 enum-told c = search needs
 
--- src/replays.rt:93:17
 run-requires : tie.Need-run-requires
 run-requires c κs =
     let a = c .before .before .before .before .before .before .before .before .before .before .before .args in
     let e = is-accepted (c .before .before .before .before .judge .result) _ _ (c .before .before .before .before .judge .ensures) (c .before .before .enum-told .given .1) in
     rows-equal (a .state) (now (a .elapsed)) (now (a .levels)) (now (a .array)) (now (a .answers)) _ e
 
--- src/replays.rt:96:33
 enum-told-2 : tie.Need-enum-told-2
 enum-told-2 c = search needs
 
--- src/replays.rt:87:1
 same-length : tie.Need-same-length
 same-length c = search needs
 
--- src/replays.rt:87:1
 same-length-2 : tie.Need-same-length-2
 same-length-2 c = search needs
 
--- src/replays.rt:87:1
 returns : tie.Need-returns
 returns c =
     let e = is-accepted (c .before .before .before .before .before .before .before .before .before .judge .result) _ _ (c .before .before .before .before .before .before .before .before .before .judge .ensures) (c .before .before .before .before .before .before .before .enum-told .given .1) in
@@ -49,15 +37,12 @@ returns c =
       said = rw e (ran .said);
     }
 
--- src/replays.rt:87:1
 same-length-3 : tie.Need-same-length-3
 same-length-3 c = search needs
 
--- src/replays.rt:87:1
 same-length-4 : tie.Need-same-length-4
 same-length-4 c = search needs
 
--- src/replays.rt:87:1
 returns-2 : tie.Need-returns-2
 returns-2 c =
     let e = is-refused (c .before .before .judge .result) _ _ _ (c .before .before .judge .ensures) (c .enum-told2 .given .1) in

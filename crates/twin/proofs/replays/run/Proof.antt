@@ -1,6 +1,6 @@
 -- `twin::replays::run` meets its contract: what is left to run from here gives what the whole gives, and the row so far with what is
 -- left to answer is the whole row.
-use Prim.Native.Nat.{_≤_, _<_, _-_, suc}
+use Prim.Native.Nat.{_≤_, _<_, _-_}
 use mathlib.Core.Path.{_≡_, refl, sym, _∙_, ap}
 use mathlib.Core.List.{_++_}
 use native.Mathlib.Omega.{arith}
@@ -11,10 +11,6 @@ use Rattle.twin.specs.Run.{Part, partStep, runOf, answersOf}
 use Rattle.twin.proofs.Laws.{run-turn, row-turn, run-done, row-done, stepped}
 use Rattle.twin.proofs.replays.run.Statement.{statement}
 use Rattle.twin.proofs.replays.run.Tie as tie
-use Rattle.twin.proofs.replays.run.Reads as reads
-use Rattle.twin.proofs.replays.run.Lts as lts
-use Rattle.twin.proofs.answers.answer.Reads as answer-reads
-use Rattle.twin.proofs.sample.step.Reads as step-reads
 
 abbrev Inv-loop : tie.InvT-loop
 Inv-loop elapsed levels array₀ row₀ state₀ i₀ array row state i =

@@ -1,0 +1,136 @@
+// Replays the cases on standard input and writes a reply for each to standard output.
+mod buffers;
+mod cases;
+mod fields;
+mod headers;
+mod replies;
+mod rounds;
+mod trials;
+mod words;
+
+use cases::Said;
+use headers::Header;
+use libc::STDIN_FILENO;
+use libc::STDOUT_FILENO;
+
+// Fills a row from the input, and answers whether there was enough of it.
+fn fill(row: &mut [u8]) -> bool {
+    let got = io::read_full(STDIN_FILENO, row);
+    got == row.len()
+}
+
+// Reads the array, the elapsed words and the levels, in the order in which a case holds them.
+fn read_rows(array: &mut [u8], raw: &mut [u8], elapsed: &mut [u32], levels: &mut [u8]) -> bool {
+    if fill(array) {
+        if fill(raw) {
+            words::decode(raw, elapsed);
+            return fill(levels);
+        }
+    }
+    false
+}
+
+fn write(row: &[u8]) -> bool {
+    io::write_all(STDOUT_FILENO, row)
+}
+
+// Writes a reply; that of a refused power-up ends after its number and place.
+fn write_reply(said: Said, array: &[u8], answers: &[u8]) -> bool {
+    let opening = said.opening;
+    if write(&opening) {
+        if said.ran {
+            let closing = said.closing;
+            return write(answers) && write(array) && write(&closing);
+        }
+        return true;
+    }
+    false
+}
+
+// Reads the rows of a case, each lent at just its length, and writes the reply.
+fn reply(
+    header: Header,
+    array: &mut [u8],
+    raw: &mut [u8],
+    elapsed: &mut [u32],
+    levels: &mut [u8],
+    answers: &mut [u8],
+) -> bool {
+    if read_rows(array, raw, elapsed, levels) {
+        let said = cases::answer(header, elapsed, levels, array, answers);
+        return write_reply(said, array, answers);
+    }
+    false
+}
+
+// Lends as much of each buffer as the case asks for; a case that asks for more is not taken.
+fn lend(
+    header: Header,
+    array: &mut [u8],
+    raw: &mut [u8],
+    elapsed: &mut [u32],
+    levels: &mut [u8],
+    answers: &mut [u8],
+) -> bool {
+    let array_length = header.array as usize;
+    let elapsed_length = header.elapsed as usize;
+    let levels_length = header.levels as usize;
+    let answers_length = header.answers as usize;
+    let raw_length = elapsed_length * words::WORD;
+    if array_length > array.len() {
+        return false;
+    }
+    if raw_length > raw.len() {
+        return false;
+    }
+    if elapsed_length > elapsed.len() {
+        return false;
+    }
+    if levels_length > levels.len() {
+        return false;
+    }
+    if answers_length > answers.len() {
+        return false;
+    }
+    reply(
+        header,
+        &mut array[..array_length],
+        &mut raw[..raw_length],
+        &mut elapsed[..elapsed_length],
+        &mut levels[..levels_length],
+        &mut answers[..answers_length],
+    )
+}
+
+// Serves one case; false where the input has no more, or the case is cut off or too long.
+fn serve_one() -> bool {
+    let mut header_bytes = [0u8; 64];
+    if fill(&mut header_bytes) {
+        let mut header_words = [0u32; 16];
+        words::decode(&header_bytes, &mut header_words);
+        let header = headers::header_of(&header_words);
+        let mut array = buffers::array_room();
+        let mut raw = buffers::raw_room();
+        let mut elapsed = buffers::elapsed_room();
+        let mut levels = buffers::row_room();
+        let mut answers = buffers::row_room();
+        return lend(
+            header,
+            &mut array,
+            &mut raw,
+            &mut elapsed,
+            &mut levels,
+            &mut answers,
+        );
+    }
+    false
+}
+
+// A proved loop has to end, and nothing says that the input does: the turns are counted down from a
+// number that no run uses up.
+fn main() {
+    let mut turns = u64::MAX;
+    while turns > 0 && serve_one() {
+        turns -= 1;
+    }
+}

@@ -1,0 +1,184 @@
+-- What a byte, a bit and a ninth bit do in each phase. Assumes nothing.
+use Prim.Native.Nat.{ℕ}
+use mathlib.Core.Bool.{Bool, true, false}
+use mathlib.Core.List.{List}
+use mathlib.Core.Path.{_≡_, refl, ap, sym}
+use native.Mathlib.Omega.{arith}
+use Rattle.part.specs.declared.kinds.Kind.{Kind}
+use Rattle.part.specs.declared.state.Phase.{Phase}
+use Rattle.part.specs.declared.state.Phase.the-variants.{Idle, Silent, Slave, High, Low, Data, Register, Send, SendRegister}
+use Rattle.part.specs.declared.state.Device.{Device}
+use Rattle.part.specs.declared.state.Load.{Load}
+use Rattle.device.specs.Talk.{withTalk, released, rested}
+use Rattle.device.specs.Bytes.{slaveOf, highOf, lowOf, takenOf, dataBy, registerBy, registerSent, byteIn, byteOf}
+use Rattle.device.specs.Bytes.{keptBy, keptIn, keptOf, nextBit, bitIn, bitOf, fetchRegister, answeredBy, ninthIn, ninthOf}
+
+-- The five phases in which a byte is heard.
+abbrev pub hears : Phase → Bool
+hears Idle = false
+hears Silent = false
+hears Slave = true
+hears High = true
+hears Low = true
+hears Data = true
+hears Register = true
+hears Send = false
+hears SendRegister = false
+
+-- The two phases in which a byte is sent.
+abbrev pub sends : Phase → Bool
+sends Idle = false
+sends Silent = false
+sends Slave = false
+sends High = false
+sends Low = false
+sends Data = false
+sends Register = false
+sends Send = true
+sends SendRegister = true
+
+-- True is not false.
+apart : true ≡ false → ⊥
+apart e = let z : _≡_ {A = ℕ} 0 1 = cc in omega arith
+
+-- A bit by phase, where nothing is sent.
+bit-none : (p : Phase) (d : Device) → sends p ≡ false → bitIn p d ≡ d
+bit-none Idle d h = refl
+bit-none Silent d h = refl
+bit-none Slave d h = refl
+bit-none High d h = refl
+bit-none Low d h = refl
+bit-none Data d h = refl
+bit-none Register d h = refl
+bit-none Send d h = absurd (apart h)
+bit-none SendRegister d h = absurd (apart h)
+
+-- A bit changes nothing but in the phases that send.
+pub bit-stays : (d : Device) → sends (d .talk .phase) ≡ false → bitOf d ≡ d
+unfolding bitOf
+bit-stays d h = bit-none (d .talk .phase) d h
+
+-- A bit by phase, where a byte is sent.
+bit-next : (p : Phase) (d : Device) → sends p ≡ true → bitIn p d ≡ nextBit p d
+bit-next Idle d h = absurd (apart (sym h))
+bit-next Silent d h = absurd (apart (sym h))
+bit-next Slave d h = absurd (apart (sym h))
+bit-next High d h = absurd (apart (sym h))
+bit-next Low d h = absurd (apart (sym h))
+bit-next Data d h = absurd (apart (sym h))
+bit-next Register d h = absurd (apart (sym h))
+bit-next Send d h = refl
+bit-next SendRegister d h = refl
+
+-- In the phases that send, a bit brings the next bit out.
+pub bit-sent : (d : Device) → sends (d .talk .phase) ≡ true → bitOf d ≡ nextBit (d .talk .phase) d
+unfolding bitOf
+bit-sent d h = bit-next (d .talk .phase) d h
+
+-- The ninth fall by phase, where a byte is heard.
+ninth-heard : (p : Phase) (k : Kind) (array : List ℕ) (b : Bool) (d : Device) → hears p ≡ true
+    → ninthIn p k array b d ≡ withTalk d (released (d .talk))
+ninth-heard Idle k array b d h = absurd (apart (sym h))
+ninth-heard Silent k array b d h = absurd (apart (sym h))
+ninth-heard Slave k array b d h = refl
+ninth-heard High k array b d h = refl
+ninth-heard Low k array b d h = refl
+ninth-heard Data k array b d h = refl
+ninth-heard Register k array b d h = refl
+ninth-heard Send k array b d h = absurd (apart (sym h))
+ninth-heard SendRegister k array b d h = absurd (apart (sym h))
+
+-- In the phases that hear, the ninth fall releases SDA.
+pub ninth-releases : (k : Kind) (array : List ℕ) (b : Bool) (d : Device) → hears (d .talk .phase) ≡ true
+    → ninthOf k array b d ≡ withTalk d (released (d .talk))
+unfolding ninthOf
+ninth-releases k array b d h = ninth-heard (d .talk .phase) k array b d h
+
+-- The load by phase, outside array data.
+kept-none : (p : Phase) (k : Kind) (d : Device) (v : ℕ) (l : Load) → (p ≡ Data → ⊥) → keptIn p k d v l ≡ l
+kept-none Idle k d v l h = refl
+kept-none Silent k d v l h = refl
+kept-none Slave k d v l h = refl
+kept-none High k d v l h = refl
+kept-none Low k d v l h = refl
+kept-none Data k d v l h = absurd (h refl)
+kept-none Register k d v l h = refl
+kept-none Send k d v l h = refl
+kept-none SendRegister k d v l h = refl
+
+-- Only array data fills the load.
+pub kept-stays : (k : Kind) (d : Device) (v : ℕ) (l : Load) → (d .talk .phase ≡ Data → ⊥) → keptOf k d v l ≡ l
+unfolding keptOf
+kept-stays k d v l h = kept-none (d .talk .phase) k d v l h
+
+-- Array data fills it if it is taken.
+pub kept-data : (k : Kind) (d : Device) (v : ℕ) (l : Load) → d .talk .phase ≡ Data → keptOf k d v l ≡ keptBy (takenOf k d) d v l
+unfolding keptOf
+kept-data k d v l e = ap (λ (p : Phase). keptIn p k d v l) e
+
+module _ (k : Kind) (array : List ℕ) (b : Bool) (d : Device) where
+  -- An idle part does nothing at a ninth fall.
+  pub ninth-idle : d .talk .phase ≡ Idle → ninthOf k array b d ≡ d
+  unfolding ninthOf
+  ninth-idle e = ap (λ (p : Phase). ninthIn p k array b d) e
+
+  -- A silent part does nothing at a ninth fall.
+  pub ninth-silent : d .talk .phase ≡ Silent → ninthOf k array b d ≡ d
+  unfolding ninthOf
+  ninth-silent e = ap (λ (p : Phase). ninthIn p k array b d) e
+
+  -- While the array is sent, a low ninth bit fetches the byte at the counter, a high one silences the part.
+  pub ninth-send : d .talk .phase ≡ Send → ninthOf k array b d ≡ answeredBy b k array d
+  unfolding ninthOf
+  ninth-send e = ap (λ (p : Phase). ninthIn p k array b d) e
+
+  -- The ninth fall after a slave byte that asks for the register fetches it.
+  pub ninth-register : d .talk .phase ≡ SendRegister → ninthOf k array b d ≡ fetchRegister d
+  unfolding ninthOf
+  ninth-register e = ap (λ (p : Phase). ninthIn p k array b d) e
+
+module _ (k : Kind) (s : ℕ) (d : Device) (v : ℕ) where
+  -- An idle part does nothing at a byte.
+  pub byte-idle : d .talk .phase ≡ Idle → byteOf k s d v ≡ d
+  unfolding byteOf
+  byte-idle e = ap (λ (p : Phase). byteIn p k s d v) e
+
+  -- A silent part does nothing at a byte.
+  pub byte-silent : d .talk .phase ≡ Silent → byteOf k s d v ≡ d
+  unfolding byteOf
+  byte-silent e = ap (λ (p : Phase). byteIn p k s d v) e
+
+  -- The first byte after a start is the slave byte.
+  pub byte-slave : d .talk .phase ≡ Slave → byteOf k s d v ≡ slaveOf s d v
+  unfolding byteOf
+  byte-slave e = ap (λ (p : Phase). byteIn p k s d v) e
+
+  -- Then comes the address's high byte.
+  pub byte-high : d .talk .phase ≡ High → byteOf k s d v ≡ highOf d v
+  unfolding byteOf
+  byte-high e = ap (λ (p : Phase). byteIn p k s d v) e
+
+  -- After it comes the address's low byte.
+  pub byte-low : d .talk .phase ≡ Low → byteOf k s d v ≡ lowOf k d v
+  unfolding byteOf
+  byte-low e = ap (λ (p : Phase). byteIn p k s d v) e
+
+  -- A byte for the array is taken or not.
+  pub byte-data : d .talk .phase ≡ Data → byteOf k s d v ≡ dataBy (takenOf k d) d
+  unfolding byteOf
+  byte-data e = ap (λ (p : Phase). byteIn p k s d v) e
+
+  -- A byte for the register is the first, or one too many.
+  pub byte-register : d .talk .phase ≡ Register → byteOf k s d v ≡ registerBy (d .control .pending) d v
+  unfolding byteOf
+  byte-register e = ap (λ (p : Phase). byteIn p k s d v) e
+
+  -- The eighth fall of an array byte sent releases SDA.
+  pub byte-send : d .talk .phase ≡ Send → byteOf k s d v ≡ withTalk d (rested Send)
+  unfolding byteOf
+  byte-send e = ap (λ (p : Phase). byteIn p k s d v) e
+
+  -- The eighth fall of the register sent silences the part and drops the choice.
+  pub byte-send-register : d .talk .phase ≡ SendRegister → byteOf k s d v ≡ registerSent d
+  unfolding byteOf
+  byte-send-register e = ap (λ (p : Phase). byteIn p k s d v) e

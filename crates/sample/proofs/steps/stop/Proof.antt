@@ -1,0 +1,47 @@
+-- `sample::steps::stop` meets its contract.
+use Rattle.sample.specs.Sample.{stopOf}
+use borrow.Author.Needs.{needs}
+use Rattle.sample.proofs.steps.stop.Statement.{statement}
+use Rattle.sample.proofs.steps.stop.Tie as tie
+
+save-requires : tie.Need-save-requires
+save-requires c κs = search needs
+
+began-requires : tie.Need-began-requires
+began-requires c κs = search needs
+
+commits-requires : tie.Need-commits-requires
+commits-requires c κs = search needs
+
+began-requires-2 : tie.Need-began-requires-2
+began-requires-2 c κs = search needs
+
+stop-requires : tie.Need-stop-requires
+stop-requires c κs = search needs
+
+empty-requires : tie.Need-empty-requires
+empty-requires c κs = search needs
+
+same-length : tie.Need-same-length
+same-length c = search needs
+
+returns : tie.Need-returns
+unfolding stopOf
+returns c =
+    record {
+      state = rw (c .empty .ensures, c .before .stop .ensures, c .before .before .began2 .ensures, c .before .before .before .commits .ensures, c .before .before .before .before .began .ensures, c .before .before .before .before .before .before .before .save .ensures .wrote);
+      kept = c .before .before .before .before .before .before .before .save .ensures .kept;
+    }
+
+pub stop-spec : {M : Type 1} → statement M
+stop-spec =
+    tie.close
+    (tie.spec
+    save-requires
+    began-requires
+    commits-requires
+    began-requires-2
+    stop-requires
+    empty-requires
+    same-length
+    returns)

@@ -1,0 +1,76 @@
+// Level bytes in, answer bytes out.
+use part::kinds;
+use part::state::State;
+ghost use mathlib.Core.Path.{_≡_};
+ghost use mathlib.Core.Bool.{Bool};
+ghost use Prim.Native.Nat.{_/_, _≤_};
+ghost use Rattle.part.specs.Cases.{odd, both, orZero};
+ghost use Rattle.sample.specs.Level.{sclOf, sdaOf, wpOf, vccOf, pinBy, answerOf};
+
+pub fn scl(level: u8) -> bool
+    ensures { λ r. ⌜ r ≡ sclOf level ⌝ }
+{
+    level % 2 == 1
+}
+
+pub fn wp(level: u8) -> bool
+    ensures { λ r. ⌜ r ≡ wpOf level ⌝ }
+{
+    level / 4 % 2 == 1
+}
+
+pub fn vcc(level: u8) -> bool
+    ensures { λ r. ⌜ r ≡ vccOf level ⌝ }
+{
+    level / 8 % 2 == 1
+}
+
+// SDA from outside.
+pub fn sda(level: u8) -> bool
+    ensures { λ r. ⌜ r ≡ sdaOf level ⌝ }
+{
+    level / 2 % 2 == 1
+}
+
+// The SDA line: low if either side pulls it low.
+pub fn line(level: u8, own: bool) -> bool
+    ensures { λ r. ⌜ r ≡ both (sdaOf level) own ⌝ }
+{
+    if sda(level) {
+        return own;
+    }
+    false
+}
+
+fn pin(high: bool, reset: bool) -> bool
+    ensures { λ r. ⌜ r ≡ pinBy high reset ⌝ }
+{
+    if high {
+        return reset;
+    }
+    !reset
+}
+
+fn worth(bit: bool, value: u8) -> u8
+    ensures worth { λ r. ⌜ r ≡ orZero bit value ⌝ }
+    ensures small { λ r. ⌜ r ≤ value ⌝ }
+{
+    if bit {
+        return value;
+    }
+    0
+}
+
+// The answer byte of a state.
+pub fn answer(s: State) -> u8
+    ensures { λ r. ⌜ r ≡ answerOf s ⌝ }
+{
+    let timers = s.timers;
+    let device = s.device;
+    let talk = device.talk;
+    let kind = kinds::kind_of(s.part);
+    let own = worth(talk.own, 1);
+    let reset = worth(pin(kind.high, timers.reset), 2);
+    let writes = worth(0 < timers.write, 4);
+    own + reset + writes
+}

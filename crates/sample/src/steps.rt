@@ -1,0 +1,184 @@
+// One sample, in the order of its four rules.
+use crate::answers;
+use device::bits;
+use device::bytes;
+use device::ends;
+use part::kinds;
+use part::page;
+use part::state::Control;
+use part::state::Lines;
+use part::state::Load;
+use part::state::Place;
+use part::state::State;
+use part::state::Timers;
+use part::state::Wire;
+use part::timers;
+use wire::Sign;
+ghost use mathlib.Core.Path.{_≡_};
+ghost use mathlib.Core.Bool.{Bool};
+ghost use Rattle.sample.specs.Sample.{begun, latchedBy, opensOf, resetOf, startOf, stopOf, byteStep};
+ghost use Rattle.sample.specs.Promises.{Steps, Hears, Saves};
+
+// Low VCC clears both latches.
+fn latched(good: bool, c: Control) -> Control
+    ensures { λ r. ⌜ r ≡ latchedBy good c ⌝ }
+{
+    let mut next = c;
+    if good {
+        return next;
+    }
+    next.wel = false;
+    next.rwel = false;
+    next
+}
+
+// Rules 1 and 2.
+fn opens(s: State, elapsed: u32, level: u8) -> State
+    ensures { λ r. ⌜ r ≡ opensOf elapsed level s ⌝ }
+{
+    let good = answers::vcc(level);
+    let mut device = s.device;
+    let control = device.control;
+    let timed = timers::timed(control.stored, elapsed, s.timers);
+    let supplied = timers::supplied(good, timed);
+    let latches = latched(good, control);
+    device.control = latches;
+    let mut next = s;
+    next.timers = supplied;
+    next.device = device;
+    next
+}
+
+// Rule 3.
+fn in_reset(s: State, level: u8) -> State
+    ensures { λ r. ⌜ r ≡ resetOf level s ⌝ }
+{
+    let quiet = Wire {
+        lines: Lines {
+            scl: answers::scl(level),
+            sda: answers::sda(level),
+        },
+        frame: wire::clean(),
+    };
+    let ended = ends::end(s.device);
+    let load = page::empty();
+    let mut next = s;
+    next.wire = quiet;
+    next.device = ended;
+    next.load = load;
+    next
+}
+
+fn start(s: State) -> State
+    ensures { λ r. ⌜ r ≡ startOf s ⌝ }
+{
+    let device = s.device;
+    let control = device.control;
+    let mut times = s.timers;
+    let watchdog = timers::loaded(control.stored);
+    let started = ends::start(0 < times.write, device);
+    let load = page::empty();
+    times.watchdog = watchdog;
+    let mut next = s;
+    next.timers = times;
+    next.device = started;
+    next.load = load;
+    next
+}
+
+fn began(write: bool, t: Timers) -> Timers
+    ensures { λ r. ⌜ r ≡ begun write t ⌝ }
+{
+    let mut next = t;
+    if write {
+        next.write = timers::WRITE_TIME;
+        return next;
+    }
+    next
+}
+
+// Lays the load over its page if any byte came, and answers whether one did.
+fn save(array: &mut [u8], place: Place, load: Load) -> bool
+    ensures { λ r. ⌜ Saves place load (now (array .entry)) r (now (array .exit)) ⌝ }
+{
+    let marks = load.marks;
+    if page::marked(marks) {
+        page::store(array, place, load);
+        return true;
+    }
+    false
+}
+
+fn stop(s: State, wp: bool, array: &mut [u8]) -> State
+    ensures { λ r. ⌜ Hears (Sign.Stop 0) wp s (now (array .entry)) r (now (array .exit)) ⌝ }
+{
+    let device = s.device;
+    let control = device.control;
+    let saved = save(array, device.counter, s.load);
+    let timed = began(saved, s.timers);
+    let times = began(control::commits(wp, control), timed);
+    let stopped = ends::stop(wp, device);
+    let load = page::empty();
+    let mut next = s;
+    next.timers = times;
+    next.device = stopped;
+    next.load = load;
+    next
+}
+
+fn byte(s: State, v: u8) -> State
+    ensures { λ r. ⌜ r ≡ byteStep v s ⌝ }
+{
+    let kind = kinds::kind_of(s.part);
+    let device = bytes::byte(kind, s.select, s.device, v);
+    let load = bytes::kept(kind, s.device, v, s.load);
+    let mut next = s;
+    next.device = device;
+    next.load = load;
+    next
+}
+
+// What a sign does.
+fn hear(s: State, sign: Sign, wp: bool, array: &mut [u8]) -> State
+    ensures { λ r. ⌜ Hears sign wp s (now (array .entry)) r (now (array .exit)) ⌝ }
+{
+    match sign {
+        Sign::Quiet => s,
+        Sign::Start => start(s),
+        Sign::Stop(_) => stop(s, wp, array),
+        Sign::Bit => {
+            let device = bits::bit(s.device);
+            let mut next = s;
+            next.device = device;
+            next
+        }
+        Sign::Byte(v) => byte(s, v),
+        Sign::Ninth(b) => {
+            let kind = kinds::kind_of(s.part);
+            let device = bits::ninth(kind, array, b, s.device);
+            let mut next = s;
+            next.device = device;
+            next
+        }
+    }
+}
+
+// The state after a sample; a stop may write the array.
+pub fn step(s: State, elapsed: u32, level: u8, array: &mut [u8]) -> State
+    ensures { λ r. ⌜ Steps elapsed level s (now (array .entry)) r (now (array .exit)) ⌝ }
+{
+    let opened = opens(s, elapsed, level);
+    let times = opened.timers;
+    if times.reset {
+        return in_reset(opened, level);
+    }
+    let device = opened.device;
+    let talk = device.talk;
+    let sda = answers::line(level, talk.own);
+    let seen = wire::see(opened.wire, answers::scl(level), sda);
+    let sign = seen.sign;
+    let after = seen.wire;
+    let mut next = opened;
+    next.wire = after;
+    hear(next, sign, answers::wp(level), array)
+}
