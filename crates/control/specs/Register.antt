@@ -2,7 +2,7 @@
 use Prim.Native.Nat.{ℕ, _+_, _*_, _/_, _%_}
 use mathlib.Core.Bool.{Bool, true, false}
 use lib.Dec.{eqb}
-use Rattle.part.specs.Cases.{both, orZero, highest, middle}
+use Rattle.part.specs.Cases.{both, either, orZero, odd, highest, middle}
 use Rattle.part.specs.declared.state.Control.{Control}
 use Rattle.control.specs.declared.Order.{Order}
 use Rattle.control.specs.declared.Order.the-variants.{SetWel, ClearWel, SetRwel, Take, Nothing}
@@ -13,7 +13,8 @@ plainOf v = v / 8 * 8 + v % 2
 
 -- The register as it reads: the stored bits, RWEL as bit 2, WEL as bit 1 (Control register, bits 7 to 0).
 abbrev pub readsOf : Control → ℕ
-readsOf c = plainOf (c .stored) + orZero (c .rwel) 4 + orZero (c .wel) 2
+readsOf c =
+    plainOf (c .stored) + orZero (either (c .rwel) (odd (c .stored / 4))) 4 + orZero (either (c .wel) (odd (c .stored / 2))) 2
 
 -- Bits 2 and 1 of a byte are 0 and 1 (Control register, RWEL high).
 abbrev pub third : ℕ → Bool

@@ -1,4 +1,5 @@
 // The control register: how it reads, and what a register byte orders at a stop.
+use part::cases;
 use part::state::Control;
 ghost use mathlib.Core.Path.{_≡_};
 ghost use mathlib.Core.Bool.{Bool, true, false};
@@ -20,21 +21,17 @@ fn plain(v: u8) -> u8
     v / 8 * 8 + v % 2
 }
 
-// The register as it reads, latches included.
+// The register as it reads, latches included. A stored byte has no latch bits in any state that is
+// replayed; where one has them they show too.
 pub fn reads(c: Control) -> u8
     ensures { λ r. ⌜ r ≡ readsOf c ⌝ }
 {
-    let stored = plain(c.stored);
-    if c.rwel {
-        if c.wel {
-            return stored + 6;
-        }
-        return stored + 4;
-    }
-    if c.wel {
-        return stored + 2;
-    }
-    stored
+    let stored = c.stored;
+    let rwel = cases::either_holds(c.rwel, stored / 4 % 2 == 1);
+    let wel = cases::either_holds(c.wel, stored / 2 % 2 == 1);
+    let high = cases::worth(rwel, 4);
+    let low = cases::worth(wel, 2);
+    plain(stored) + high + low
 }
 
 // 06h: RWEL is set only behind WEL.

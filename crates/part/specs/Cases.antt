@@ -9,6 +9,11 @@ abbrev pub both : Bool → Bool → Bool
 both true b = b
 both false b = false
 
+-- One of two tests holds.
+abbrev pub either : Bool → Bool → Bool
+either true b = true
+either false b = b
+
 -- Some test of a list holds.
 abbrev pub some : List Bool → Bool
 some [] = false

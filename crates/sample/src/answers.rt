@@ -1,10 +1,10 @@
 // Level bytes in, answer bytes out.
+use part::cases;
 use part::kinds;
 use part::state::State;
 ghost use mathlib.Core.Path.{_≡_};
 ghost use mathlib.Core.Bool.{Bool};
-ghost use Prim.Native.Nat.{_/_, _≤_};
-ghost use Rattle.part.specs.Cases.{odd, both, orZero};
+ghost use Rattle.part.specs.Cases.{both};
 ghost use Rattle.sample.specs.Level.{sclOf, sdaOf, wpOf, vccOf, pinBy, answerOf};
 
 pub fn scl(level: u8) -> bool
@@ -51,16 +51,6 @@ fn pin(high: bool, reset: bool) -> bool
     !reset
 }
 
-fn worth(bit: bool, value: u8) -> u8
-    ensures worth { λ r. ⌜ r ≡ orZero bit value ⌝ }
-    ensures small { λ r. ⌜ r ≤ value ⌝ }
-{
-    if bit {
-        return value;
-    }
-    0
-}
-
 // The answer byte of a state.
 pub fn answer(s: State) -> u8
     ensures { λ r. ⌜ r ≡ answerOf s ⌝ }
@@ -69,8 +59,8 @@ pub fn answer(s: State) -> u8
     let device = s.device;
     let talk = device.talk;
     let kind = kinds::kind_of(s.part);
-    let own = worth(talk.own, 1);
-    let reset = worth(pin(kind.high, timers.reset), 2);
-    let writes = worth(0 < timers.write, 4);
+    let own = cases::worth(talk.own, 1);
+    let reset = cases::worth(pin(kind.high, timers.reset), 2);
+    let writes = cases::worth(0 < timers.write, 4);
     own + reset + writes
 }

@@ -1,11 +1,11 @@
 // The ranges of a state's fields.
+use part::cases;
 use part::kinds;
 use part::state::State;
 use part::state::Timers;
 use part::timers;
 ghost use mathlib.Core.Path.{_≡_};
 ghost use mathlib.Core.Bool.{Bool};
-ghost use Rattle.part.specs.Cases.{both};
 ghost use Rattle.twin.specs.Refusals.{storable, timersInRange, inRange};
 
 pub const MOST_SELECT: u8 = 3;
@@ -18,24 +18,15 @@ pub fn is_storable(stored: u8) -> bool
     stored / 2 % 4 == 0
 }
 
-fn both_hold(a: bool, b: bool) -> bool
-    ensures { λ r. ⌜ r ≡ both a b ⌝ }
-{
-    if a {
-        return b;
-    }
-    false
-}
-
 fn times_in_range(t: Timers) -> bool
     ensures { λ r. ⌜ r ≡ timersInRange t ⌝ }
 {
     let watchdog = t.watchdog;
-    let hold = both_hold(
+    let hold = cases::both_hold(
         t.hold <= timers::RESET_HOLD,
         watchdog.left <= timers::LONG_WATCH,
     );
-    both_hold(t.write <= timers::WRITE_TIME, hold)
+    cases::both_hold(t.write <= timers::WRITE_TIME, hold)
 }
 
 pub fn in_range(s: State) -> bool
@@ -48,9 +39,9 @@ pub fn in_range(s: State) -> bool
     let wire = s.wire;
     let frame = wire.frame;
     let stored = is_storable(control.stored);
-    let select = both_hold(s.select <= MOST_SELECT, stored);
-    let part = both_hold(0 < kind.size, select);
-    let times = both_hold(times_in_range(s.timers), part);
-    let bits = both_hold(frame.bits <= MOST_BITS, times);
-    both_hold(counter.0 < kind.size, bits)
+    let select = cases::both_hold(s.select <= MOST_SELECT, stored);
+    let part = cases::both_hold(0 < kind.size, select);
+    let times = cases::both_hold(times_in_range(s.timers), part);
+    let bits = cases::both_hold(frame.bits <= MOST_BITS, times);
+    cases::both_hold(counter.0 < kind.size, bits)
 }

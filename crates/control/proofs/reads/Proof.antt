@@ -1,8 +1,19 @@
 -- `control::reads` meets its contract.
-use native.Mathlib.Omega.{arith}
 use borrow.Author.Needs.{needs}
 use Rattle.control.proofs.reads.Statement.{statement}
 use Rattle.control.proofs.reads.Tie as tie
+
+either-holds-requires : tie.Need-either-holds-requires
+either-holds-requires c κs = search needs
+
+either-holds-requires-2 : tie.Need-either-holds-requires-2
+either-holds-requires-2 c κs = search needs
+
+worth-requires : tie.Need-worth-requires
+worth-requires c κs = search needs
+
+worth-requires-2 : tie.Need-worth-requires-2
+worth-requires-2 c κs = search needs
 
 plain-requires : tie.Need-plain-requires
 plain-requires c κs = search needs
@@ -10,33 +21,22 @@ plain-requires c κs = search needs
 add-result : tie.Need-add-result
 add-result c = search needs
 
-returns : tie.Need-returns
-returns c = rw (c .before .if1 .taken, c .if2 .taken, c .before .before .plain .ensures) (omega arith)
-
 add-result-2 : tie.Need-add-result-2
 add-result-2 c = search needs
 
-returns-2 : tie.Need-returns-2
-returns-2 c = rw (c .before .if1 .taken, c .if2 .left, c .before .before .plain .ensures) (omega arith)
-
-add-result-3 : tie.Need-add-result-3
-add-result-3 c = search needs
-
-returns-3 : tie.Need-returns-3
-returns-3 c = rw (c .before .if1 .left, c .if3 .taken, c .before .before .plain .ensures) (omega arith)
-
-returns-4 : tie.Need-returns-4
-returns-4 c = rw (c .before .if1 .left, c .if3 .left, c .before .before .plain .ensures) (omega arith)
+returns : tie.Need-returns
+returns c =
+    rw (c .plain .ensures, c .before .worth2 .ensures .0, c .before .before .worth .ensures .0, c .before .before .before .either-holds2 .ensures, c .before .before .before .before .either-holds .ensures)
 
 pub reads-spec : {M : Type 1} → statement M
 reads-spec =
     tie.close
     (tie.spec
+    either-holds-requires
+    either-holds-requires-2
+    worth-requires
+    worth-requires-2
     plain-requires
     add-result
-    returns
     add-result-2
-    returns-2
-    add-result-3
-    returns-3
-    returns-4)
+    returns)
