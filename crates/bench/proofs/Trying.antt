@@ -6,14 +6,14 @@ use mathlib.Core.Path.{_≡_, ap, sym, subst, _∙_}
 use lib.ListN.{length, replicate}
 use Rattle.part.specs.declared.state.State.{State}
 use Rattle.twin.specs.declared.replays.Replayed.{Replayed}
-use Rattle.twin.specs.declared.replays.Reply.the-variants.{Accepted, Refused}
-use Rattle.twin.specs.Refusals.{Verdict, accepted, refused, meant}
+use Rattle.refusals.specs.declared.Reply.the-variants.{Accepted, Refused}
+use Rattle.refusals.specs.Refusals.{Verdict, accepted, refused, meant}
 use Rattle.twin.specs.Promises.{PowersUp}
 use Rattle.twin.specs.Power.{powerState, poweredUp}
-use Rattle.bench.specs.declared.headers.Header.{Header}
+use Rattle.form.specs.declared.headers.Header.{Header}
 use Rattle.bench.specs.declared.trials.Tried.{Tried}
-use Rattle.bench.specs.Words.{bytesOf, encodedOf}
-use Rattle.bench.specs.Fields.{putInOf}
+use Rattle.form.specs.Words.{bytesOf, encodedOf}
+use Rattle.form.specs.Fields.{putInOf}
 use Rattle.bench.specs.Rounds.{Round, roundOf, timesOf}
 use Rattle.bench.specs.Trial.{blank, upOf, firstOf, triedOf, Tries}
 use Rattle.bench.specs.Reply.{openingOf, closingOf, Closes}

@@ -1,19 +1,19 @@
--- The words of a reply.
+-- The words of a reply (docs/BENCH.md).
 use Prim.Native.Nat.{ℕ, min}
 use mathlib.Core.List.{List, [], _∷_}
 use mathlib.Core.Path.{_≡_}
 use Rattle.part.specs.Cases.{orZero}
 use Rattle.part.specs.declared.state.State.{State}
-use Rattle.twin.specs.Refusals.{Verdict, accepted, refused}
+use Rattle.refusals.specs.Refusals.{Verdict, accepted, refused}
 use Rattle.twin.specs.Promises.{ReadsRegister}
-use Rattle.bench.specs.Words.{bytesOf}
+use Rattle.form.specs.Words.{bytesOf}
 
 -- The first two words: the refusal's number, 0 for acceptance, and the place or the count of samples.
 unfoldable pub openingOf : Verdict → List ℕ
 openingOf (accepted n) = 0 ∷ min n 4294967295 ∷ []
 openingOf (refused k p) = k ∷ min p 4294967295 ∷ []
 
--- The last eight words: control register as it reads, address counter, write time left, reset active, hold, low-VCC flag, watchdog running, watchdog left.
+-- The last eight words: register, counter, write time, reset active, hold, low-VCC flag, watchdog running and left.
 unfoldable pub closingOf : ℕ → State → List ℕ
 closingOf register s =
     register

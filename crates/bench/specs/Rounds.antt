@@ -1,10 +1,10 @@
--- A capture replayed over and over, each time from what the time before left.
+-- A capture replayed over and over, each time from what the time before left (docs/BENCH.md).
 use Prim.Native.Nat.{ℕ, zero, suc, _-_}
 use mathlib.Core.List.{List}
 use Rattle.part.specs.declared.state.State.{State}
 use Rattle.twin.specs.declared.replays.Replayed.{Replayed}
 use Rattle.twin.specs.Run.{Part}
-use Rattle.twin.specs.Refusals.{Verdict, meant, judgedOf}
+use Rattle.refusals.specs.Refusals.{Verdict, meant, judgedOf}
 use Rattle.twin.specs.Promises.{partAfter, rowAfter}
 
 -- What a replay leaves: its verdict, the part, and the answer row.

@@ -1,15 +1,15 @@
--- One case: power-up, the words put in, and the replays.
+-- One case: power-up, the words put in, and the replays (docs/BENCH.md).
 use Prim.Native.Nat.{ℕ, min}
 use mathlib.Core.Bool.{Bool, true, false}
 use mathlib.Core.List.{List}
 use mathlib.Core.Path.{_≡_}
 use lib.ListN.{length, replicate}
 use Rattle.part.specs.declared.state.State.{State}
-use Rattle.twin.specs.Refusals.{Verdict, accepted, refused, powerOf}
+use Rattle.refusals.specs.Refusals.{Verdict, accepted, refused, powerOf}
 use Rattle.twin.specs.Power.{poweredUp}
-use Rattle.bench.specs.declared.headers.Header.{Header}
+use Rattle.form.specs.declared.headers.Header.{Header}
 use Rattle.bench.specs.declared.trials.Tried.{Tried}
-use Rattle.bench.specs.Fields.{putInOf}
+use Rattle.form.specs.Fields.{putInOf}
 use Rattle.bench.specs.Rounds.{Round, roundOf, timesOf}
 
 -- What an answer byte holds before any replay writes it.
@@ -29,7 +29,7 @@ abbrev pub ranBy : Verdict → Bool
 ranBy (accepted n) = true
 ranBy (refused k p) = false
 
--- What a case leaves by the power-up's verdict: a refusal leaves the rows alone, else they are replayed over a blank answer row.
+-- What a case leaves: a refused power-up leaves the rows alone, else they are replayed over a blank answer row.
 abbrev pub triedBy : Verdict → Header → List ℕ → List ℕ → List ℕ → List ℕ → Round
 triedBy (accepted n) h es ls array row = timesOf (h .times) (firstOf h) es ls array (replicate (length row) blank)
 triedBy (refused k p) h es ls array row = record { verdict = refused k p; part = record { state = poweredUp 4323 0 0; array = array }; row = row }

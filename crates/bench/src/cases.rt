@@ -1,7 +1,7 @@
 // A case from its header and rows to all that is written for it.
-use crate::headers::Header;
 use crate::replies;
 use crate::trials;
+use form::headers::Header;
 ghost use Rattle.bench.specs.Case.{Answers};
 
 // What a reply says beside the answer row and the array: whether those two and the closing bytes

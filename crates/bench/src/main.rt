@@ -1,15 +1,14 @@
 // Replays the cases on standard input and writes a reply for each to standard output.
 mod buffers;
 mod cases;
-mod fields;
-mod headers;
 mod replies;
 mod rounds;
 mod trials;
-mod words;
 
 use cases::Said;
-use headers::Header;
+use form::headers;
+use form::headers::Header;
+use form::words;
 use libc::STDIN_FILENO;
 use libc::STDOUT_FILENO;
 

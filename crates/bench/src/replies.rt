@@ -1,12 +1,12 @@
 // The words of a reply, as bytes.
-use crate::words;
+use form::words;
 use part::state::State;
 use twin::Reply;
 ghost use mathlib.Core.Path.{_≡_};
 ghost use Prim.Native.Nat.{min};
 ghost use Rattle.part.specs.Cases.{orZero};
-ghost use Rattle.twin.specs.Refusals.{meant};
-ghost use Rattle.bench.specs.Words.{bytesOf};
+ghost use Rattle.refusals.specs.Refusals.{meant};
+ghost use Rattle.form.specs.Words.{bytesOf};
 ghost use Rattle.bench.specs.Reply.{openingOf, closingOf, Closes};
 
 // A place fits a word in every reply that can come; were it wider, it would count as the largest word.

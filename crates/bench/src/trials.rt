@@ -1,7 +1,7 @@
 // One case: power-up, the words put in, and the replays.
-use crate::fields;
-use crate::headers::Header;
 use crate::rounds;
+use form::fields;
+use form::headers::Header;
 use twin::Replayed;
 use twin::Reply;
 ghost use mathlib.Core.Path.{_≡_};

@@ -44,7 +44,7 @@ lowOf k d v = addressBy (eqb (addressOf (d .talk .high) v .0) registerAddress) k
 unfoldable pub takenOf : Kind → Device → Bool
 takenOf k d = both (d .control .wel) (not (lockedOf k (d .control .stored) (d .counter)))
 
--- An array byte, taken: acknowledged, the counter stepped in its page; or not: silence, RWEL staying (Bytes on the wire, array data).
+-- An array byte: taken, it is acknowledged and the counter steps; not taken, silence, RWEL staying (Bytes on the wire).
 abbrev pub dataBy : Bool → Device → Device
 dataBy true d = record { talk = acknowledged Data; counter = nextInPage (d .counter); control = d .control }
 dataBy false d = withTalk d (rested Silent)

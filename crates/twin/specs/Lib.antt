@@ -1,4 +1,3 @@
 pub mod Run
-pub mod Refusals
 pub mod Power
 pub mod Promises

@@ -9,8 +9,8 @@ use Rattle.control.specs.Register.{readsOf}
 use Rattle.twin.specs.declared.replays.Replayed.{Replayed}
 use Rattle.twin.specs.declared.power.Size.{Size}
 use Rattle.twin.specs.Run.{Part, runOf, answersOf}
-use Rattle.twin.specs.Refusals.{Verdict, accepted, refused, meant, sizeMeant, judgedOf, powerOf, sizeBy}
-use Rattle.twin.specs.Power.{powerState}
+use Rattle.refusals.specs.Refusals.{Verdict, accepted, refused, meant, judgedOf, powerOf}
+use Rattle.twin.specs.Power.{powerState, sizeMeant, sizeBy}
 
 -- Power-up: its verdict, and the state beside it (Refusal numbers, 1 to 3; State and time, power-up).
 pub record PowersUp (part select stored : ℕ) (r : Replayed) : Type 0 where

@@ -1,13 +1,12 @@
 // The twin of the part. Its public operations are the five names brought out here: none has a
 // `requires`, and each says for every input its whole reply and what each lent row holds at the end.
 mod power;
-mod ranges;
 mod replays;
 
 pub use power::Size;
 pub use power::power_up;
 pub use power::register;
 pub use power::size_of;
+pub use refusals::Reply;
 pub use replays::Replayed;
-pub use replays::Reply;
 pub use replays::replay;

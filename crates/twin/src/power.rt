@@ -1,7 +1,5 @@
 // Power-up, and what a caller asks of a part beside replaying it.
-use crate::ranges;
 use crate::replays::Replayed;
-use crate::replays::Reply;
 use part::kinds;
 use part::page;
 use part::state::Control;
@@ -15,6 +13,8 @@ use part::state::Timers;
 use part::state::Watchdog;
 use part::state::Wire;
 use part::timers;
+use refusals::Reply;
+use refusals::verdicts;
 ghost use mathlib.Core.Path.{_≡_};
 ghost use Rattle.twin.specs.Power.{poweredUp};
 ghost use Rattle.twin.specs.Promises.{PowersUp, ReadsRegister, SizesPart};
@@ -69,33 +69,21 @@ fn powered_up(part: u16, select: u8, stored: u8) -> State
     }
 }
 
-fn refuse(number: u8) -> Replayed
-    ensures { λ r. ⌜ r ≡ record { reply = Reply.Refused number 0; state = poweredUp 4323 0 0 } ⌝ }
-{
-    Replayed {
-        reply: Reply::Refused(number, 0),
-        state: powered_up(kinds::X4323, 0, 0),
-    }
-}
-
 // The part at power-up, or refusal 1, 2 or 3 with the state of part 4323, select 0, stored byte 00h.
 pub fn power_up(part: u16, select: u8, stored: u8) -> Replayed
     ensures { λ r. ⌜ PowersUp part select stored r ⌝ }
 {
-    let kind = kinds::kind_of(part);
-    if kind.size == 0 {
-        return refuse(1);
-    }
-    if select > ranges::MOST_SELECT {
-        return refuse(2);
-    }
-    if ranges::is_storable(stored) {
-        return Replayed {
-            reply: Reply::Accepted(0),
+    let reply = verdicts::power(part, select, stored);
+    match reply {
+        Reply::Accepted(_) => Replayed {
+            reply,
             state: powered_up(part, select, stored),
-        };
+        },
+        Reply::Refused(_, _) => Replayed {
+            reply,
+            state: powered_up(kinds::X4323, 0, 0),
+        },
     }
-    refuse(3)
 }
 
 // The control register as it reads, latches included.

@@ -1,72 +1,52 @@
--- `twin::power::power_up` meets its contract.
-use borrow.Author.Tests.{le-leb, lt-leb}
-use Rattle.twin.specs.Refusals.{meant, powerOf}
-use Rattle.twin.proofs.Laws.{not-zero}
+use Rattle.refusals.proofs.Laws.{is-accepted, is-refused}
 use borrow.Author.Needs.{needs}
 use Rattle.twin.proofs.power.power_up.Statement.{statement}
 use Rattle.twin.proofs.power.power_up.Tie as tie
+use Rattle.twin.proofs.power.power_up.Reads as reads
+use Rattle.twin.proofs.power.power_up.Lts as lts
+use Rattle.refusals.proofs.verdicts.power.Reads as power-reads
+use Rattle.twin.proofs.power.powered_up.Reads as powered-up-reads
 
-kind-of-requires : tie.Need-kind-of-requires
-kind-of-requires c κs = search needs
+-- src/power.rt:76:9
+power-requires : tie.Need-power-requires
+power-requires c κs = search needs
 
-refuse-requires : tie.Need-refuse-requires
-refuse-requires c κs = search needs
+-- src/power.rt:80:20
+enum-told : tie.Need-enum-told
+enum-told c = search needs
 
-returns : tie.Need-returns
-unfolding meant powerOf
-returns c =
-    record {
-      reply = rw (c .refuse .ensures, ← c .before .before .before .kind-of .ensures, c .before .if1 .taken);
-      state = rw (c .refuse .ensures, ← c .before .before .before .kind-of .ensures, c .before .if1 .taken);
-    }
-
-refuse-requires-2 : tie.Need-refuse-requires-2
-refuse-requires-2 c κs = search needs
-
-returns-2 : tie.Need-returns-2
-unfolding meant powerOf
-returns-2 c =
-    record {
-      reply = rw (c .refuse2 .ensures, ← c .before .before .before .before .kind-of .ensures, not-zero _ (c .before .before .if1 .left), lt-leb _ _ (c .before .if2 .taken));
-      state = rw (c .refuse2 .ensures, ← c .before .before .before .before .kind-of .ensures, not-zero _ (c .before .before .if1 .left), lt-leb _ _ (c .before .if2 .taken));
-    }
-
-is-storable-requires : tie.Need-is-storable-requires
-is-storable-requires c κs = search needs
-
+-- src/power.rt:80:20
 powered-up-requires : tie.Need-powered-up-requires
 powered-up-requires c κs = search needs
 
-returns-3 : tie.Need-returns-3
-unfolding meant powerOf
-returns-3 c =
-    record {
-      reply = rw (← c .before .before .before .before .before .before .kind-of .ensures, not-zero _ (c .before .before .before .before .if1 .left), le-leb _ _ (c .before .before .before .if2 .left), ← c .before .before .is-storable .ensures, c .before .if3 .taken);
-      state = rw (c .powered-up .ensures, ← c .before .before .before .before .before .before .kind-of .ensures, not-zero _ (c .before .before .before .before .if1 .left), le-leb _ _ (c .before .before .before .if2 .left), ← c .before .before .is-storable .ensures, c .before .if3 .taken);
-    }
+-- src/power.rt:84:20
+enum-told-2 : tie.Need-enum-told-2
+enum-told-2 c = search needs
 
-refuse-requires-3 : tie.Need-refuse-requires-3
-refuse-requires-3 c κs = search needs
+-- src/power.rt:84:20
+powered-up-requires-2 : tie.Need-powered-up-requires-2
+powered-up-requires-2 c κs = search needs
 
-returns-4 : tie.Need-returns-4
-unfolding meant powerOf
-returns-4 c =
-    record {
-      reply = rw (c .refuse3 .ensures, ← c .before .before .before .before .before .before .kind-of .ensures, not-zero _ (c .before .before .before .before .if1 .left), le-leb _ _ (c .before .before .before .if2 .left), ← c .before .before .is-storable .ensures, c .before .if3 .left);
-      state = rw (c .refuse3 .ensures, ← c .before .before .before .before .before .before .kind-of .ensures, not-zero _ (c .before .before .before .before .if1 .left), le-leb _ _ (c .before .before .before .if2 .left), ← c .before .before .is-storable .ensures, c .before .if3 .left);
-    }
+-- src/power.rt:73:1
+returns : tie.Need-returns
+returns c =
+    let e = is-accepted (c .before .before .before .power .result) _ _ (c .before .before .before .power .ensures) (c .before .enum-told .given .1) in
+    record { reply = c .before .before .before .power .ensures; state = rw (c .powered-up .ensures, e) }
+
+-- src/power.rt:73:1
+returns-2 : tie.Need-returns-2
+returns-2 c =
+    let e = is-refused (c .before .before .before .power .result) _ _ _ (c .before .before .before .power .ensures) (c .before .enum-told2 .given .1) in
+    record { reply = c .before .before .before .power .ensures; state = rw (c .powered-up2 .ensures, e) }
 
 pub power-up-spec : {M : Type 1} → statement M
 power-up-spec =
     tie.close
     (tie.spec
-    kind-of-requires
-    refuse-requires
-    returns
-    refuse-requires-2
-    returns-2
-    is-storable-requires
+    power-requires
+    enum-told
     powered-up-requires
-    returns-3
-    refuse-requires-3
-    returns-4)
+    enum-told-2
+    powered-up-requires-2
+    returns
+    returns-2)

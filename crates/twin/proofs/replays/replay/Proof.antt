@@ -1,6 +1,6 @@
 -- `twin::replays::replay` meets its contract.
 use denote.Ref.{now}
-use Rattle.twin.proofs.Laws.{is-accepted, is-refused, rows-equal}
+use Rattle.refusals.proofs.Laws.{is-accepted, is-refused, rows-equal}
 use borrow.Author.Needs.{needs}
 use Rattle.twin.proofs.replays.replay.Statement.{statement}
 use Rattle.twin.proofs.replays.replay.Tie as tie

@@ -1,0 +1,62 @@
+-- `refusals::verdicts::judge` meets its contract.
+use borrow.Author.Tests.{eq-eqb, ne-eqb, le-leb, lt-leb}
+use Rattle.refusals.specs.Refusals.{meant, judgedOf}
+use borrow.Author.Needs.{needs}
+use Rattle.refusals.proofs.verdicts.judge.Statement.{statement}
+use Rattle.refusals.proofs.verdicts.judge.Tie as tie
+
+kind-of-requires : tie.Need-kind-of-requires
+kind-of-requires c κs = search needs
+
+in-range-requires : tie.Need-in-range-requires
+in-range-requires c κs = search needs
+
+cast-if2 : tie.Need-cast-if2
+cast-if2 c = search needs
+
+returns : tie.Need-returns
+unfolding meant judgedOf
+returns c =
+    rw (← c .before .before .before .in-range .ensures, c .before .before .if1 .taken, ← c .before .before .before .before .kind-of .ensures, ne-eqb _ _ (c .if2 .taken))
+
+returns-2 : tie.Need-returns-2
+unfolding meant judgedOf
+returns-2 c =
+    rw (← c .before .before .before .before .in-range .ensures, c .before .before .before .if1 .taken, ← c .before .before .before .before .before .kind-of .ensures, eq-eqb _ _ (c .before .if2 .left), ne-eqb _ _ (c .if3 .taken))
+
+returns-3 : tie.Need-returns-3
+unfolding meant judgedOf
+returns-3 c =
+    rw (← c .before .before .before .before .before .in-range .ensures, c .before .before .before .before .if1 .taken, ← c .before .before .before .before .before .before .kind-of .ensures, eq-eqb _ _ (c .before .before .if2 .left), eq-eqb _ _ (c .before .if3 .left), lt-leb _ _ (c .if4 .taken))
+
+returns-4 : tie.Need-returns-4
+unfolding meant judgedOf
+returns-4 c =
+    rw (← c .before .before .before .before .before .before .in-range .ensures, c .before .before .before .before .before .if1 .taken, ← c .before .before .before .before .before .before .before .kind-of .ensures, eq-eqb _ _ (c .before .before .before .if2 .left), eq-eqb _ _ (c .before .before .if3 .left), le-leb _ _ (c .before .if4 .left), ne-eqb _ _ (c .if5 .taken))
+
+faults-requires : tie.Need-faults-requires
+faults-requires c κs = search needs
+
+returns-5 : tie.Need-returns-5
+unfolding judgedOf
+returns-5 c =
+    rw (← c .before .before .before .before .before .before .before .in-range .ensures, c .before .before .before .before .before .before .if1 .taken, ← c .before .before .before .before .before .before .before .before .kind-of .ensures, eq-eqb _ _ (c .before .before .before .before .if2 .left), eq-eqb _ _ (c .before .before .before .if3 .left), le-leb _ _ (c .before .before .if4 .left), eq-eqb _ _ (c .before .if5 .left)) (c .faults .ensures)
+
+returns-6 : tie.Need-returns-6
+unfolding meant judgedOf
+returns-6 c = rw (← c .before .in-range .ensures, c .if1 .left)
+
+pub judge-spec : {M : Type 1} → statement M
+judge-spec =
+    tie.close
+    (tie.spec
+    kind-of-requires
+    in-range-requires
+    cast-if2
+    returns
+    returns-2
+    returns-3
+    returns-4
+    faults-requires
+    returns-5
+    returns-6)

@@ -1,0 +1,88 @@
+-- What is refused, with its number and place (document 01, Refusal numbers; State and time, ranges and power-up).
+use Prim.Native.Nat.{ℕ, _+_}
+use mathlib.Core.Bool.{Bool, true, false}
+use mathlib.Core.List.{List, [], _∷_}
+use lib.ListN.{length}
+use lib.Dec.{eqb, leb, ltb}
+use Rattle.part.specs.Numbers.{writeTime, resetHold, longWatch, mostSelect, mostBits, mostElapsed, mostLevel, mostSamples}
+use Rattle.part.specs.Cases.{both, middle}
+use Rattle.part.specs.Kind.{kindOf, known}
+use Rattle.part.specs.declared.state.State.{State}
+use Rattle.part.specs.declared.state.Timers.{Timers}
+use Rattle.refusals.specs.declared.Reply.{Reply}
+use Rattle.refusals.specs.declared.Reply.the-variants.{Accepted, Refused}
+
+-- The paper's answers: acceptance with a count, or a refusal number with its place (What goes in and what comes out).
+pub data Verdict : Type 0 where
+  accepted : ℕ → Verdict
+  refused : ℕ → ℕ → Verdict
+
+-- What each case of a reply says in the paper's numbers (Refusal numbers).
+unfoldable pub meant : Reply → Verdict
+meant (Accepted n) = accepted n
+meant (Refused k p) = refused k p
+
+-- Refusal 1: the number names no part (Refusal numbers, 1).
+abbrev pub noPart : Verdict
+noPart = refused 1 0
+
+-- Bits 1 and 2 of a stored control byte are clear (Refusal numbers, 3; State and time, ranges).
+abbrev pub storable : ℕ → Bool
+storable v = eqb (middle v) 0
+
+-- The three ranges of times: write time, reset hold and watchdog left (State and time, ranges).
+abbrev pub timersInRange : Timers → Bool
+timersInRange t = both (leb (t .write) writeTime) (both (leb (t .hold) resetHold) (leb (t .watchdog .left) longWatch))
+
+-- The eight ranges: counter, bits, three times, part, select, stored byte (State and time, ranges).
+unfoldable pub inRange : State → Bool
+inRange s =
+    both (ltb (s .device .counter .0) (kindOf (s .part) .size))
+    (both (leb (s .wire .frame .bits) mostBits)
+    (both (timersInRange (s .timers))
+    (both (known (s .part))
+    (both (leb (s .select) mostSelect)
+    (storable (s .device .control .stored))))))
+
+-- Refusals 9 and 10 at one sample, in this order; otherwise what the later samples say (Refusal numbers).
+abbrev pub sampleBy : Bool → Bool → ℕ → Verdict → Verdict
+sampleBy false l place rest = refused 9 place
+sampleBy true false place rest = refused 10 place
+sampleBy true true place rest = rest
+
+-- The earliest faulty sample, places counted from the given one; else the given verdict (Refusal numbers, 9, 10).
+abbrev pub samplesOf : ℕ → List ℕ → List ℕ → Verdict → Verdict
+samplesOf place [] ls good = good
+samplesOf place (e ∷ es) [] good = good
+samplesOf place (e ∷ es) (l ∷ ls) good = sampleBy (leb e mostElapsed) (leb l mostLevel) place (samplesOf (place + 1) es ls good)
+
+-- Refusals 4 to 8 in numeric order, then the samples (Refusal numbers).
+abbrev pub judgedBy : Bool → Bool → Bool → Bool → Bool → Verdict → Verdict
+judgedBy false l e m a v = refused 4 0
+judgedBy true false e m a v = refused 5 0
+judgedBy true true false m a v = refused 6 0
+judgedBy true true true false a v = refused 7 0
+judgedBy true true true true false v = refused 8 0
+judgedBy true true true true true v = v
+
+-- The replay's verdict: acceptance with the row length, or the first refusal that is due (Refusal numbers, 4 to 10).
+unfoldable pub judgedOf : State → List ℕ → List ℕ → List ℕ → List ℕ → Verdict
+judgedOf s es ls array answers =
+    judgedBy
+    (inRange s)
+    (eqb (length array) (kindOf (s .part) .size))
+    (eqb (length es) (length ls))
+    (leb (length ls) mostSamples)
+    (eqb (length answers) (length ls))
+    (samplesOf 0 es ls (accepted (length ls)))
+
+-- Refusals 1 to 3 in numeric order; an accepted power-up has seen no sample (Refusal numbers, 1 to 3).
+abbrev pub powerBy : Bool → Bool → Bool → Verdict
+powerBy false s b = noPart
+powerBy true false b = refused 2 0
+powerBy true true false = refused 3 0
+powerBy true true true = accepted 0
+
+-- The power-up's verdict (Refusal numbers, 1 to 3).
+unfoldable pub powerOf : ℕ → ℕ → ℕ → Verdict
+powerOf part select stored = powerBy (known part) (leb select mostSelect) (storable stored)
