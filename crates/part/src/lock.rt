@@ -1,5 +1,6 @@
 // Block lock: which pages a control byte locks.
 use crate::kinds::Kind;
+use crate::state::PAGE;
 use crate::state::Place;
 ghost use mathlib.Core.Path.{_≡_};
 ghost use Rattle.part.specs.Lock.{blockCode, extentOf, lockedOf};
@@ -25,7 +26,7 @@ pub fn extent_of(kind: Kind, code: u8) -> Extent
         0..=2 => Extent { from: 0, to: 0 },
         3 => Extent {
             from: 0,
-            to: kind.size / 64,
+            to: kind.size / PAGE,
         },
         4 => Extent { from: 0, to: 1 },
         5 => Extent { from: 0, to: 2 },
@@ -40,6 +41,6 @@ pub fn locked(kind: Kind, stored: u8, place: Place) -> bool
     ensures { λ r. ⌜ r ≡ lockedOf kind stored place ⌝ }
 {
     let e = extent_of(kind, block_code(stored));
-    let page = place.0 / 64;
+    let page = place.0 / PAGE;
     if e.from <= page { page < e.to } else { false }
 }

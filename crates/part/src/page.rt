@@ -2,6 +2,7 @@
 use crate::kinds::Kind;
 use crate::state::BusAddress;
 use crate::state::Load;
+use crate::state::PAGE;
 use crate::state::Place;
 ghost use mathlib.Core.Path.{_≡_};
 ghost use mathlib.Core.Bool.{Bool};
@@ -25,7 +26,7 @@ pub fn next_in_page(place: Place) -> Place
     ensures { λ r. ⌜ r ≡ nextInPage place ⌝ }
 {
     let p = place.0;
-    Place(p / 64 * 64 + (p % 64 + 1) % 64)
+    Place(p / PAGE * PAGE + (p % PAGE + 1) % PAGE)
 }
 
 // The next place of the array, the last going to the first.
@@ -58,7 +59,7 @@ pub fn empty() -> Load
 pub fn filled(load: Load, place: Place, byte: u8) -> Load
     ensures { λ r. ⌜ r ≡ filledOf load place byte ⌝ }
 {
-    let index = (place.0 % 64) as usize;
+    let index = (place.0 % PAGE) as usize;
     let mut next = load;
     next.bytes[index] = byte;
     next.marks[index] = true;
@@ -120,7 +121,7 @@ fn lay(page: &mut [u8], load: Load)
 pub fn store(array: &mut [u8], place: Place, load: Load)
     ensures { λ _. ⌜ now (array .exit) ≡ storeOf place load (now (array .entry)) ⌝ }
 {
-    let first = (place.0 / 64 * 64) as usize;
+    let first = (place.0 / PAGE * PAGE) as usize;
     if first < array.len() {
         lay(&mut array[first..], load);
     }

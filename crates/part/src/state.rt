@@ -1,5 +1,8 @@
 // The state of the part, by value. Only `Load` holds arrays, so every other struct stays small.
 
+// Bytes in a page. The two arrays of a page load have as many elements.
+pub const PAGE: u16 = 64;
+
 // A 16-bit address as the bus sends it: FFFFh chooses the control register.
 pub struct BusAddress(pub u16);
 
