@@ -1,5 +1,6 @@
-// The twin of the part. Its public operations are the five names brought out here: none has a
-// `requires`, and each says for every input its whole reply and what each lent row holds at the end.
+// The twin of the part. Its public operations are the four functions brought out here, with the three
+// types that they answer in: none has a `requires`, and each says for every input its whole reply and
+// what each lent row holds at the end.
 mod power;
 mod replays;
 
