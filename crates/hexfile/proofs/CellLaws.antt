@@ -1,0 +1,80 @@
+-- Laws of the cells and of blank bytes that several proofs cite. Assumes nothing.
+use Prim.Native.Nat.{ℕ, zero, suc, _<_, _≤_}
+use mathlib.Core.Bool.{true}
+use mathlib.Core.List.{List, [], _∷_, _++_, append-assoc, append-nil}
+use mathlib.Core.Path.{_≡_, refl, ap, sym, _∙_}
+use native.Mathlib.Omega.{arith}
+use lib.Dec.{eqb, ltb}
+use lib.ListN.{length, getD, take, drop, set, replicate, take-append-drop, drop-of-length-le}
+use lib.Seq.{drop-cons, take-suc-set, drop-set-lt, take-all}
+use Rattle.part.specs.Cases.{both}
+use Rattle.hexfile.specs.Cells.{notGiven, blankByte, freshOf, giveOf, byteBy, settledOf, blankOf}
+
+-- The rows keep their lengths.
+pub length-giveOf : (cs bs : List ℕ) → length (giveOf cs bs) ≡ length cs
+length-giveOf [] bs = refl
+length-giveOf (c ∷ cs) [] = refl
+length-giveOf (c ∷ cs) (b ∷ bs) = ap suc (length-giveOf cs bs)
+
+pub length-settledOf : (cs : List ℕ) → length (settledOf cs) ≡ length cs
+length-settledOf [] = refl
+length-settledOf (c ∷ cs) = ap suc (length-settledOf cs)
+
+-- Cells of which none is given settle to blank bytes.
+pub settled-none : (n : ℕ) → settledOf (replicate n notGiven) ≡ replicate n blankByte
+settled-none zero = refl
+settled-none (suc n) = ap (λ (l : List ℕ). blankByte ∷ l) (settled-none n)
+
+-- The cell at an index decides, with those behind it, whether all are fresh.
+pub fresh-turn : (cs bs : List ℕ) (i : ℕ) → i < length cs → i < length bs
+    → freshOf (drop i cs) (drop i bs) ≡ both (eqb (getD cs i 0) notGiven) (freshOf (drop (suc i) cs) (drop (suc i) bs))
+fresh-turn cs bs i p q = rw (drop-cons cs i 0 p, drop-cons bs i 0 q)
+
+fresh-nil : (cs : List ℕ) → freshOf cs [] ≡ true
+fresh-nil [] = refl
+fresh-nil (c ∷ cs) = refl
+
+pub fresh-done : (cs bs : List ℕ) (i : ℕ) → length bs ≤ i → freshOf (drop i cs) (drop i bs) ≡ true
+fresh-done cs bs i h = rw (drop-of-length-le bs h, fresh-nil)
+
+-- One turn of the giving: the byte at an index is given, and what is left is given behind it.
+pub give-turn : (cs bs : List ℕ) (i v : ℕ) → i < length cs → i < length bs → v ≡ getD bs i 0
+    → take (suc i) (set cs i v) ++ giveOf (drop (suc i) (set cs i v)) (drop (suc i) bs)
+    ≡ take i cs ++ giveOf (drop i cs) (drop i bs)
+give-turn cs bs i v p q e =
+    rw (
+      take-suc-set cs i v p,
+      drop-set-lt (suc i) cs i v (omega arith),
+      drop-cons cs i 0 p,
+      drop-cons bs i 0 q,
+      append-assoc,
+      e,
+    )
+
+give-nil : (cs : List ℕ) → giveOf cs [] ≡ cs
+give-nil [] = refl
+give-nil (c ∷ cs) = refl
+
+pub give-done : (cs bs whole : List ℕ) (i : ℕ) → length bs ≤ i
+    → take i cs ++ giveOf (drop i cs) (drop i bs) ≡ whole → cs ≡ whole
+give-done cs bs whole i h e =
+    sym (take-append-drop i cs) ∙ (rw (drop-of-length-le bs h, give-nil (drop i cs)) at e)
+
+-- One turn of the settling: the byte of the cell at an index is stored, and what is left settles behind it.
+pub settle-turn : (cs array : List ℕ) (i v : ℕ) → i < length cs → i < length array
+    → v ≡ byteBy (ltb (getD cs i 0) notGiven) (getD cs i 0)
+    → take (suc i) (set array i v) ++ settledOf (drop (suc i) cs) ≡ take i array ++ settledOf (drop i cs)
+settle-turn cs array i v p q e = rw (take-suc-set array i v q, drop-cons cs i 0 p, append-assoc, e)
+
+pub settle-done : (cs array whole : List ℕ) (i : ℕ) → length cs ≤ i → length array ≤ i
+    → take i array ++ settledOf (drop i cs) ≡ whole → array ≡ whole
+settle-done cs array whole i p q e =
+    sym (append-nil array) ∙ (rw (take-all i array q, drop-of-length-le cs p) at e)
+
+-- The byte at an index decides, with those behind it, whether all are blank.
+pub blank-turn : (bs : List ℕ) (i : ℕ) → i < length bs
+    → blankOf (drop i bs) ≡ both (eqb (getD bs i 0) blankByte) (blankOf (drop (suc i) bs))
+blank-turn bs i h = rw (drop-cons bs i 0 h)
+
+pub blank-done : (bs : List ℕ) (i : ℕ) → length bs ≤ i → blankOf (drop i bs) ≡ true
+blank-done bs i h = rw (drop-of-length-le bs h)

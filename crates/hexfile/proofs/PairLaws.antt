@@ -1,0 +1,92 @@
+-- Laws of the pairs of digits and of the sums that the proofs cite. Assumes nothing.
+use Prim.Native.Nat.{ℕ, zero, suc, _+_, _*_, _/_, _%_, _<_, _≤_}
+use mathlib.Core.Bool.{Bool, true, false}
+use mathlib.Core.List.{List, [], _∷_, _++_, append-assoc, append-nil}
+use mathlib.Core.Path.{_≡_, refl, sym, _∙_}
+use native.Mathlib.Omega.{arith}
+use native.Mathlib.Numerals.{add-one}
+use lib.Dec.{ltb, eqb, eqb·suc-suc}
+use lib.ListN.{length, getD, take, drop, set}
+use lib.Seq.{drop-cons, take-suc-set, length-take-le, sets}
+use borrow.Author.Tests.{lt-ltb, ltb-true}
+use Rattle.part.specs.Cases.{both}
+use Rattle.hexfile.specs.Digits.{digitOf, isDigit, glyphOf}
+use Rattle.hexfile.specs.Pairs.{pairOf, paired, pairsOf, textOf, sumOf}
+use Rattle.hexfile.specs.Promises.{Decodes}
+
+-- The byte of two digits is one.
+pub pair-fits : (a b : ℕ) → isDigit a ≡ true → isDigit b ≡ true → pairOf a b < 256
+pair-fits a b h k = omega (arith, ltb-true (digitOf a) 16 h, ltb-true (digitOf b) 16 k)
+
+-- A byte is written as two characters.
+pub length-textOf : (bs : List ℕ) → length (textOf bs) ≡ 2 * length bs
+length-textOf [] = refl
+length-textOf (b ∷ bs) = omega (arith, length-textOf bs)
+
+-- What follows a pair is pairs too.
+rest-paired : (p q : Bool) → both p q ≡ true → q ≡ true
+rest-paired true q h = h
+rest-paired false true h = refl
+rest-paired false false h = h
+
+-- Two characters are read as a byte.
+pub length-pairsOf : (cs : List ℕ) → paired cs ≡ true → 2 * length (pairsOf cs) ≡ length cs
+length-pairsOf [] h = refl
+length-pairsOf (a ∷ []) h = let z : _≡_ {A = ℕ} 0 1 = cc in omega arith
+length-pairsOf (a ∷ b ∷ cs) h = omega (arith, length-pairsOf cs (rest-paired (both (isDigit a) (isDigit b)) (paired cs) h))
+
+-- Two characters from an index on, and what follows them.
+two : (cs : List ℕ) (at : ℕ) → at + 2 ≤ length cs
+    → drop at cs ≡ getD cs at 0 ∷ getD cs (at + 1) 0 ∷ drop (at + 2) cs
+two cs at h =
+    let e : at + 2 ≡ suc (suc at) = omega arith in
+    rw (add-one at, e, drop-cons cs at 0 (omega arith), drop-cons cs (suc at) 0 (omega arith))
+
+-- One turn of the decoding: a pair's byte is stored, and what is left is decoded after it.
+pub decode-turn : (text room : List ℕ) (from i : ℕ) {hi lo : ℕ} → from + 2 ≤ length text → i < length room
+    → hi ≡ digitOf (getD text from 0) → lo ≡ digitOf (getD text (from + 1) 0) → hi < 16 → lo < 16
+    → (paired (drop from text) ≡ paired (drop (from + 2) text))
+    × (take (i + 1) (set room i (hi * 16 + lo)) ++ pairsOf (drop (from + 2) text) ≡ take i room ++ pairsOf (drop from text))
+decode-turn text room from i {hi} {lo} h p e f k l = (
+  rw (two text from h, ← e, ← f, lt-ltb hi 16 k, lt-ltb lo 16 l),
+  rw (add-one i, take-suc-set room i (hi * 16 + lo) p, two text from h, append-assoc, e, f),
+)
+
+-- A text is not made of pairs of digits where one of two characters is no digit.
+pub undecoded : (text room : List ℕ) (from : ℕ) {hi lo : ℕ} → from + 2 ≤ length text → paired text ≡ paired (drop from text)
+    → hi ≡ digitOf (getD text from 0) → lo ≡ digitOf (getD text (from + 1) 0) → both (ltb hi 16) (ltb lo 16) ≡ false
+    → Decodes text false room
+undecoded text room from h e f g k = record {
+  said = sym (rw (two text from h, ← f, ← g, k) at e);
+  bytes = λ t. absurd (let z : _≡_ {A = ℕ} 0 1 = cc in omega arith);
+}
+
+-- Where fewer than two characters are left they make no byte, and are pairs exactly if there is none.
+few : (from : ℕ) (text : List ℕ) → from ≤ length text → length text < from + 2
+    → (eqb from (length text) ≡ paired (drop from text)) × (pairsOf (drop from text) ≡ [])
+few zero [] h k = (refl, refl)
+few zero (a ∷ []) h k = (refl, refl)
+few zero (a ∷ b ∷ cs) h k = absurd (omega arith)
+few (suc n) [] h k = absurd (omega arith)
+few (suc n) (a ∷ cs) h k = rw (eqb·suc-suc n (length cs)) (few n cs (omega arith) (omega arith))
+
+-- The decoding is done there: the room starts with the bytes.
+pub decoded : (text room : List ℕ) (from i : ℕ) → from ≤ length text → length text < from + 2 → i ≤ length room
+    → paired text ≡ paired (drop from text) → take i room ++ pairsOf (drop from text) ≡ pairsOf text
+    → Decodes text (eqb from (length text)) room
+decoded text room from i h k p e f =
+    let g : take i room ≡ pairsOf text = rw (few from text h k .1, append-nil) at f in
+    record { said = few from text h k .0 ∙ sym e; bytes = λ _. rw (← g, length-take-le i room p) }
+
+-- One turn of the encoding: a byte's two characters are stored, and what is left is encoded after them.
+pub encode-turn : (bytes out : List ℕ) (to i b : ℕ) → i < length bytes → b ≡ getD bytes i 0
+    → sets (set (set out to (glyphOf (b / 16))) (to + 1) (glyphOf (b % 16))) (to + 2) (textOf (drop (i + 1) bytes))
+    ≡ sets out to (textOf (drop i bytes))
+encode-turn bytes out to i b p e =
+    let e2 : to + 2 ≡ suc (suc to) = omega arith in
+    rw (e2, add-one to, add-one i, drop-cons bytes i 0 p, e)
+
+-- One turn of the sum: a byte is added, and what is left is added after it.
+pub sum-turn : (bytes : List ℕ) (total i : ℕ) → i < length bytes
+    → ((total + getD bytes i 0) % 256 + sumOf (drop (i + 1) bytes)) % 256 ≡ (total + sumOf (drop i bytes)) % 256
+sum-turn bytes total i p = rw (add-one i, drop-cons bytes i 0 p) (omega arith)

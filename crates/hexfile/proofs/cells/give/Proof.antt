@@ -1,0 +1,78 @@
+-- `hexfile::cells::give` meets its contract: what is given so far, and what is left to give to the rest, is the whole.
+use Prim.Native.Nat.{_≤_, _-_}
+use mathlib.Core.Path.{_≡_, refl, _∙_}
+use mathlib.Core.List.{_++_}
+use native.Mathlib.Omega.{arith}
+use native.Mathlib.Numerals.{add-one}
+use borrow.Author.Needs.{needs}
+use lib.ListN.{length, take, drop, length-set}
+use Rattle.hexfile.specs.Cells.{giveOf}
+use Rattle.hexfile.proofs.CellLaws.{give-turn, give-done}
+use Rattle.hexfile.proofs.cells.give.Statement.{statement}
+use Rattle.hexfile.proofs.cells.give.Tie as tie
+
+abbrev Inv-loop : tie.InvT-loop
+Inv-loop cells₀ bytes i₀ cells i =
+    (i ≤ length bytes)
+    × (length cells ≡ length cells₀)
+    × (length bytes ≤ length cells₀)
+    × (take i cells ++ giveOf (drop i cells) (drop i bytes) ≡ giveOf cells₀ bytes)
+
+abbrev μ-loop : tie.MeasureT-loop
+μ-loop cells₀ bytes i₀ cells i = length bytes - i
+
+loop-holds : tie.Need-loop-holds Inv-loop μ-loop
+loop-holds c = (search needs, refl, c .before .before .pre, refl)
+
+shared-slice-read-wide : tie.Need-shared-slice-read-wide Inv-loop μ-loop
+shared-slice-read-wide c = search needs
+
+wide-requires : tie.Need-wide-requires Inv-loop μ-loop
+wide-requires c κs = search needs
+
+mul-cells : tie.Need-mul-cells Inv-loop μ-loop
+mul-cells c = search needs
+
+slice-write-cells : tie.Need-slice-write-cells Inv-loop μ-loop
+slice-write-cells c = search needs
+
+add-i : tie.Need-add-i Inv-loop μ-loop
+add-i c = search needs
+
+loop-less : tie.Need-loop-less Inv-loop μ-loop
+loop-less c = search needs
+
+loop-again : tie.Need-loop-again Inv-loop μ-loop
+loop-again c =
+    let at = c .before .before .before .loop in
+    let bytes = c .before .before .before .before .before .before .args .bytes .now in (
+      omega arith,
+      simp length-set (at .inv .1),
+      at .inv .2,
+      rw add-one (give-turn (at .cells) bytes (at .i) _ (omega arith) (omega arith) (c .wide .ensures) ∙ at .inv .3),
+    )
+
+same-length : tie.Need-same-length Inv-loop μ-loop
+same-length c = c .before .loop .inv .1
+
+returns : tie.Need-returns Inv-loop μ-loop
+returns c =
+    let at = c .before .loop in
+    give-done (at .cells) _ _ (at .i) (omega arith) (at .inv .3)
+
+pub give-spec : {M : Type 1} → statement M
+give-spec =
+    tie.close
+    (tie.spec
+    Inv-loop
+    μ-loop
+    loop-holds
+    shared-slice-read-wide
+    wide-requires
+    mul-cells
+    slice-write-cells
+    add-i
+    loop-less
+    loop-again
+    same-length
+    returns)

@@ -1,0 +1,5 @@
+pub mod Digits
+pub mod Lines
+pub mod Pairs
+pub mod Cells
+pub mod Promises

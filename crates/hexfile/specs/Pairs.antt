@@ -1,0 +1,42 @@
+-- Bytes as pairs of digits, and their checksum (document 01, Image files).
+use Prim.Native.Nat.{ℕ, _+_, _*_, _-_, _/_, _%_}
+use mathlib.Core.Bool.{Bool, true, false}
+use mathlib.Core.List.{List, [], _∷_}
+use lib.Dec.{eqb}
+use Rattle.part.specs.Cases.{both}
+use Rattle.part.specs.Numbers.{byteValues}
+use Rattle.hexfile.specs.Digits.{base, digitOf, isDigit, glyphOf}
+
+-- The byte of two digits, the higher first (Image files).
+abbrev pub pairOf : ℕ → ℕ → ℕ
+pairOf a b = digitOf a * base + digitOf b
+
+-- Whether a text is made of pairs of digits, to its last character (Image files).
+abbrev pub paired : List ℕ → Bool
+paired [] = true
+paired (a ∷ []) = false
+paired (a ∷ b ∷ cs) = both (both (isDigit a) (isDigit b)) (paired cs)
+
+-- The bytes of the pairs (Image files).
+abbrev pub pairsOf : List ℕ → List ℕ
+pairsOf [] = []
+pairsOf (a ∷ []) = []
+pairsOf (a ∷ b ∷ cs) = pairOf a b ∷ pairsOf cs
+
+-- The digits of bytes, two for each, the higher first (Image files).
+abbrev pub textOf : List ℕ → List ℕ
+textOf [] = []
+textOf (b ∷ bs) = glyphOf (b / base) ∷ glyphOf (b % base) ∷ textOf bs
+
+-- What bytes add up to.
+abbrev pub sumOf : List ℕ → ℕ
+sumOf [] = 0
+sumOf (b ∷ bs) = b + sumOf bs
+
+-- Bytes whose last is their checksum sum to 0 modulo 256 (Image files, all bytes of a record).
+abbrev pub sound : List ℕ → Bool
+sound bs = eqb (sumOf bs % byteValues) 0
+
+-- The byte that makes the sum 0 modulo 256 (Image files, all bytes of a record).
+abbrev pub checkOf : List ℕ → ℕ
+checkOf bs = (byteValues - sumOf bs % byteValues) % byteValues

@@ -1,0 +1,12 @@
+-- What decoding promises: a named part for each thing that it leaves.
+use Prim.Native.Nat.{ℕ}
+use mathlib.Core.Bool.{Bool, true}
+use mathlib.Core.List.{List}
+use mathlib.Core.Path.{_≡_}
+use lib.ListN.{length, take}
+use Rattle.hexfile.specs.Pairs.{paired, pairsOf}
+
+-- Whether the text is pairs of digits, and if it is, their bytes at the start of the room.
+pub record Decodes (text : List ℕ) (r : Bool) (room′ : List ℕ) : Type 0 where
+  pub said : r ≡ paired text
+  pub bytes : r ≡ true → take (length (pairsOf text)) room′ ≡ pairsOf text

@@ -1,0 +1,66 @@
+// Cells, one for each address: the byte that a file gives there, or `NOT_GIVEN`.
+ghost use mathlib.Core.Path.{_≡_};
+ghost use Prim.Native.Nat.{_≤_};
+ghost use lib.ListN.{length};
+ghost use Rattle.hexfile.specs.Cells.{freshOf, giveOf, byteBy, settledOf};
+ghost use lib.Dec.{ltb};
+
+pub const NOT_GIVEN: u16 = 256;
+
+// What a byte holds that no file gives.
+pub const BLANK: u8 = 0xFF;
+
+// Whether none of the first cells, one for each byte, is given yet.
+pub fn fresh(cells: &[u16], bytes: &[u8]) -> bool
+    requires { ⌜ length (now bytes) ≤ length (now cells) ⌝ }
+    ensures { λ r. ⌜ r ≡ freshOf (now (cells .entry)) (now (bytes .entry)) ⌝ }
+{
+    let mut i = 0;
+    while i < bytes.len() {
+        if cells[i] != NOT_GIVEN {
+            return false;
+        }
+        i += 1;
+    }
+    true
+}
+
+// Gives the bytes to the first cells.
+pub fn give(cells: &mut [u16], bytes: &[u8])
+    requires { ⌜ length (now bytes) ≤ length (now cells) ⌝ }
+    ensures { λ _. ⌜ now (cells .exit) ≡ giveOf (now (cells .entry)) (now (bytes .entry)) ⌝ }
+{
+    let mut i = 0;
+    while i < bytes.len() {
+        cells[i] = wide(bytes[i]);
+        i += 1;
+    }
+}
+
+fn wide(byte: u8) -> u16
+    ensures { λ r. ⌜ r ≡ byte ⌝ }
+{
+    byte as u16
+}
+
+// The byte of a cell: `BLANK` where it is not given.
+fn byte_of(cell: u16) -> u8
+    ensures { λ r. ⌜ r ≡ byteBy (ltb cell 256) cell ⌝ }
+{
+    if cell < NOT_GIVEN {
+        return cell as u8;
+    }
+    BLANK
+}
+
+// Puts the bytes of the cells into an array of their number.
+pub fn settle(cells: &[u16], array: &mut [u8])
+    requires { ⌜ length (now array) ≡ length (now cells) ⌝ }
+    ensures { λ _. ⌜ now (array .exit) ≡ settledOf (now (cells .entry)) ⌝ }
+{
+    let mut i = 0;
+    while i < array.len() {
+        array[i] = byte_of(cells[i]);
+        i += 1;
+    }
+}

@@ -1,0 +1,56 @@
+// A text, line by line.
+ghost use mathlib.Core.Path.{_≡_};
+ghost use Prim.Native.Nat.{_+_, _-_, _≤_};
+ghost use lib.ListN.{length, take, drop};
+ghost use Rattle.hexfile.specs.Lines.{firstOf, linesOf, stepOf, trimmed};
+
+pub const LINE_FEED: u8 = 10;
+
+pub const CARRIAGE_RETURN: u8 = 13;
+
+// A line, by where its characters end without and with its carriage return; or that none is left.
+pub enum Line {
+    At(usize, usize),
+    End,
+}
+
+// Where the line that starts at `at` ends: at its line feed or at the end of the text.
+fn feed(text: &[u8], at: usize) -> usize
+    requires { ⌜ at ≤ length (now text) ⌝ }
+    ensures { λ r. ⌜ r ≡ at + length (firstOf (linesOf (drop at (now (text .entry))))) ⌝ }
+{
+    let mut i = at;
+    while i < text.len() {
+        if text[i] == LINE_FEED {
+            return i;
+        }
+        i += 1;
+    }
+    i
+}
+
+// Where the line ends once a carriage return before its end is dropped.
+fn trim(text: &[u8], at: usize, feed: usize) -> usize
+    requires { ⌜ at ≤ feed ⌝ }
+    requires { ⌜ feed ≤ length (now text) ⌝ }
+    ensures { λ r. ⌜ r ≡ at + length (trimmed (take (feed - at) (drop at (now (text .entry))))) ⌝ }
+{
+    if at < feed {
+        let last = feed - 1;
+        if text[last] == CARRIAGE_RETURN {
+            return last;
+        }
+    }
+    feed
+}
+
+// The line that starts at `at`, or the end.
+pub fn next_line(text: &[u8], at: usize) -> Line
+    ensures { λ r. ⌜ r ≡ stepOf at (linesOf (drop at (now (text .entry)))) ⌝ }
+{
+    if at < text.len() {
+        let end = feed(text, at);
+        return Line::At(trim(text, at, end), end);
+    }
+    Line::End
+}

@@ -1,0 +1,169 @@
+-- Laws of one line: whether it is well formed, and what its bytes say to the cells. Assumes nothing.
+use Prim.Native.Nat.{ℕ, _+_, _*_, _-_, _/_, _%_, _≤_, _<_}
+use mathlib.Core.Bool.{Bool, true, false}
+use mathlib.Core.List.{List, [], _∷_}
+use mathlib.Core.Path.{_≡_, refl, ap, sym, _∙_}
+use native.Mathlib.Omega.{arith}
+use lib.Dec.{eqb}
+use lib.ListN.{length, getD, take, drop, length-drop, length-take}
+use lib.Seq.{length-take-le, getD-take}
+use borrow.Author.Tests.{eq-eqb, ne-eqb, eqb-true}
+use Rattle.part.specs.Cases.{both}
+use Rattle.hexfile.specs.Digits.{isDigit}
+use Rattle.hexfile.specs.Pairs.{paired, pairsOf, sumOf}
+use Rattle.hexfile.specs.Promises.{Decodes}
+use Rattle.hexfile.proofs.PairLaws.{pair-fits, length-pairsOf}
+use Rattle.image.specs.Form.{bytesOf, countOf, addressOf, typeOf, dataOf, wellFormed, typed, inside}
+use Rattle.image.specs.Reading.{fresh, givenOf, recordSays, saysOf}
+use Rattle.image.specs.Parts.{Forms, Places, Judges, Hears}
+use Rattle.image.specs.declared.records.Says.{Says}
+use Rattle.image.specs.declared.records.Says.the-variants.{Ends, Faulty}
+use Rattle.image.proofs.Placed.{fresh-none}
+
+-- Both tests hold where their conjunction does.
+both-left : (p q : Bool) → both p q ≡ true → p ≡ true
+both-left true q h = refl
+both-left false q h = h
+
+both-right : (p q : Bool) → both p q ≡ true → q ≡ true
+both-right true q h = h
+both-right false true h = refl
+both-right false false h = h
+
+-- A conjunction with a test that fails fails.
+both-fails : (p : Bool) → both p false ≡ false
+both-fails true = refl
+both-fails false = refl
+
+-- Bytes of a wrong sum.
+pub judge-unsound : (bs cells : List ℕ) (s : ℕ) → s ≡ (0 + sumOf bs) % 256 → (s ≡ 0 → ⊥) → Judges bs cells (Faulty 13) cells
+unfolding recordSays
+judge-unsound bs cells s e h =
+    let k : sumOf bs % 256 ≡ 0 → ⊥ = λ z. h (omega arith) in
+    record { said = rw (ne-eqb (sumOf bs % 256) 0 k); kept = refl }
+
+-- Bytes of a type that is not taken.
+pub judge-untyped : (bs cells : List ℕ) (s : ℕ) → s ≡ (0 + sumOf bs) % 256 → s ≡ 0 → typed bs ≡ false → Judges bs cells (Faulty 14) cells
+unfolding recordSays
+judge-untyped bs cells s e h t =
+    let k : sumOf bs % 256 ≡ 0 = omega arith in
+    record { said = rw (eq-eqb (sumOf bs % 256) 0 k, t); kept = refl }
+
+-- The end record gives nothing, wherever.
+pub judge-end : (bs cells : List ℕ) (s : ℕ) → s ≡ (0 + sumOf bs) % 256 → s ≡ 0 → typed bs ≡ true → typeOf bs ≡ 1 → Judges bs cells Ends cells
+unfolding recordSays typed inside fresh
+judge-end bs cells s e h t y =
+    let k : sumOf bs % 256 ≡ 0 = omega arith in
+    let b : both (eqb (countOf bs) 0) (eqb (addressOf bs) 0) ≡ true = rw y at t in
+    let n : countOf bs ≡ 0 = eqb-true (countOf bs) 0 (both-left _ _ b) in
+    record { said = rw (eq-eqb (sumOf bs % 256) 0 k, y, b, n, fresh-none (drop (addressOf bs) cells)); kept = refl }
+
+-- The bytes of a data record say what its data do at its address.
+pub judge-placed : (bs cells cells′ : List ℕ) (r : Says) (s : ℕ) → s ≡ (0 + sumOf bs) % 256 → s ≡ 0 → typed bs ≡ true
+    → (typeOf bs ≡ 1 → ⊥) → length bs ≡ 5 + countOf bs
+    → Places (addressOf bs) (take (length bs - 1 - 4) (drop 4 bs)) cells r cells′ → Judges bs cells r cells′
+unfolding recordSays inside fresh givenOf
+judge-placed bs cells cells′ r s e h t y m q =
+    let k : sumOf bs % 256 ≡ 0 = omega arith in
+    let d : length bs - 1 - 4 ≡ countOf bs = omega arith in
+    let p : Places (addressOf bs) (dataOf bs) cells r cells′ = rw d at q in
+    let n : length (dataOf bs) ≡ countOf bs = length-take-le (countOf bs) (drop 4 bs) (simp length-drop (omega arith)) in
+    record { said = rw (eq-eqb (sumOf bs % 256) 0 k, t, ne-eqb (typeOf bs) 1 y) (rw n at (p .said)); kept = p .kept }
+
+-- A count is a byte.
+count-fits : (cs : List ℕ) → paired cs ≡ true → getD (pairsOf cs) 0 0 < 256
+count-fits [] h = omega arith
+count-fits (a ∷ []) h = let z : _≡_ {A = ℕ} 0 1 = cc in absurd (omega arith)
+count-fits (a ∷ b ∷ cs) h =
+    let d : both (isDigit a) (isDigit b) ≡ true = both-left (both (isDigit a) (isDigit b)) (paired cs) h in
+    pair-fits a b (both-left (isDigit a) (isDigit b) d) (both-right (isDigit a) (isDigit b) d)
+
+-- A conjunction fails where the second test does, given the first.
+both-unless : (p q : Bool) → (p ≡ true → q ≡ false) → both p q ≡ false
+both-unless true q h = h refl
+both-unless false q h = refl
+
+-- A line of another length than its count says is not well formed; so is one that no count could fit.
+unformed-by-length : (line : List ℕ)
+    → (paired (drop 1 line) ≡ true → length line ≡ 11 + 2 * countOf (bytesOf line) → ⊥) → wellFormed line ≡ false
+unfolding wellFormed
+unformed-by-length line h =
+    both-unless (eqb (getD line 0 0) 0x3A) _
+    (λ _. both-unless (paired (drop 1 line)) _ (λ p. ne-eqb (length line) (11 + 2 * countOf (bytesOf line)) (h p)))
+
+pub unformed : (line room : List ℕ) → wellFormed line ≡ false → Forms line false room
+unformed line room h = record { said = sym h; bytes = λ t. absurd (let z : _≡_ {A = ℕ} 0 1 = cc in omega arith) }
+
+pub short-unformed : (line room : List ℕ) → length line < 11 → Forms line false room
+short-unformed line room h = unformed line room (unformed-by-length line (λ _ e. omega arith))
+
+pub long-unformed : (line room : List ℕ) → 521 < length line → Forms line false room
+unfolding bytesOf
+long-unformed line room h =
+    unformed line room (unformed-by-length line (λ p e. omega (arith, count-fits (drop 1 line) p)))
+
+pub colon-unformed : (line room : List ℕ) → (getD line 0 0 ≡ 0x3A → ⊥) → Forms line false room
+unfolding wellFormed
+colon-unformed line room h = unformed line room (rw (ne-eqb (getD line 0 0) 0x3A h))
+
+-- Past the colon a line is well formed if it is pairs, and of the length that the first byte says.
+pub pairs-unformed : (line room : List ℕ) → Decodes (drop 1 line) false room → Forms line false room
+unfolding wellFormed
+pairs-unformed line room d =
+    unformed line room (rw (sym (d .said)) (both-fails (eqb (getD line 0 0) 0x3A)))
+
+-- The bytes of a line of pairs, and their number.
+bytes-half : (line : List ℕ) → 11 ≤ length line → paired (drop 1 line) ≡ true → length (bytesOf line) ≡ length line / 2
+unfolding bytesOf
+bytes-half line h p =
+    let n : length (drop 1 line) ≡ length line - 1 = length-drop 1 line in
+    let m : 2 * length (pairsOf (drop 1 line)) ≡ length (drop 1 line) = length-pairsOf (drop 1 line) p in
+    omega arith
+
+pub formed : (line room : List ℕ) → 11 ≤ length line → getD line 0 0 ≡ 0x3A → Decodes (drop 1 line) true room
+    → Forms line (eqb (length line) (11 + 2 * getD room 0 0)) room
+unfolding wellFormed bytesOf
+formed line room h c d =
+    let p : paired (drop 1 line) ≡ true = sym (d .said) in
+    let m : length (pairsOf (drop 1 line)) ≡ length line / 2 = bytes-half line h p in
+    let b : take (length line / 2) room ≡ pairsOf (drop 1 line) = rw m at (d .bytes refl) in
+    let n : getD room 0 0 ≡ getD (pairsOf (drop 1 line)) 0 0 =
+    sym (getD-take (length line / 2) room 0 0 (omega arith)) ∙ ap (λ (l : List ℕ). getD l 0 0) b in
+    record { said = rw (eq-eqb (getD line 0 0) 0x3A c, p, n); bytes = λ _. b }
+
+-- A well-formed line has its count of data and five bytes more: half as many as characters.
+formed-count : (line : List ℕ) → wellFormed line ≡ true
+    → (length (bytesOf line) ≡ length line / 2) × (length (bytesOf line) ≡ 5 + countOf (bytesOf line))
+unfolding wellFormed
+formed-count line h =
+    let sized : Bool = eqb (length line) (11 + 2 * countOf (bytesOf line)) in
+    let q : both (paired (drop 1 line)) sized ≡ true =
+    both-right (eqb (getD line 0 0) 0x3A) (both (paired (drop 1 line)) sized) h in
+    let p : paired (drop 1 line) ≡ true = both-left (paired (drop 1 line)) sized q in
+    let e : length line ≡ 11 + 2 * countOf (bytesOf line) =
+    eqb-true (length line) (11 + 2 * countOf (bytesOf line)) (both-right (paired (drop 1 line)) sized q) in
+    let m : length (bytesOf line) ≡ length line / 2 = bytes-half line (omega arith) p in
+    (m, omega arith)
+
+-- So they fit the room that holds them.
+pub room-fits : (line room : List ℕ) → Forms line true room → length line / 2 ≤ length room
+room-fits line room f =
+    let e : length (take (length line / 2) room) ≡ length line / 2 =
+    ap length (f .bytes refl) ∙ formed-count line (sym (f .said)) .0 in
+    omega (arith, simp length-take at e)
+
+pub room-count : (line room : List ℕ) → Forms line true room
+    → length (take (length line / 2) room) ≡ 5 + getD (take (length line / 2) room) 0 0
+room-count line room f = rw (f .bytes refl) (formed-count line (sym (f .said)) .1)
+
+-- A line that is not well formed, and one that says what its bytes do.
+pub hear-unformed : (line room cells : List ℕ) → Forms line false room → Hears line cells (Faulty 12) cells
+unfolding saysOf recordSays
+hear-unformed line room cells f = record { said = rw (sym (f .said)); kept = refl }
+
+pub hear-formed : (line room cells cells′ : List ℕ) (r : Says) → Forms line true room
+    → Judges (take (length line / 2) room) cells r cells′ → Hears line cells r cells′
+unfolding saysOf
+hear-formed line room cells cells′ r f j =
+    let k : Judges (bytesOf line) cells r cells′ = rw (f .bytes refl) at j in
+    record { said = rw (sym (f .said)) (k .said); kept = k .kept }

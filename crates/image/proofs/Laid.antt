@@ -1,0 +1,178 @@
+-- Laws of what the writer lays over a buffer. Assumes nothing.
+use Prim.Native.Nat.{ℕ, zero, suc, _+_, _*_, _-_, _/_, _%_, _≤_, _<_}
+use mathlib.Core.Bool.{Bool, true, false}
+use mathlib.Core.List.{List, [], _∷_, _++_, append-assoc}
+use mathlib.Core.Path.{_≡_, refl, _∙_}
+use native.Mathlib.Omega.{arith}
+use native.Mathlib.Nat.{zero-add}
+use native.Mathlib.Numerals.{add-one}
+use lib.ListN.{length, take, drop, set, length-append, length-drop}
+use lib.Seq.{sets, sets-eq, length-take-le, drop-drop}
+use borrow.Author.Tests.{eq-eqb, ne-eqb, le-leb, lt-leb}
+use Rattle.refusals.specs.Refusals.{meant}
+use Rattle.refusals.specs.declared.Reply.the-variants.{Accepted, Refused}
+use Rattle.hexfile.specs.Pairs.{textOf, sumOf, checkOf}
+use Rattle.hexfile.specs.Cells.{blankOf}
+use Rattle.hexfile.proofs.PairLaws.{length-textOf}
+use Rattle.image.specs.Form.{imageSize}
+use Rattle.image.specs.Writing.{fieldsOf, recordText, rowBy, rowsText, imageText, writtenBy, rowsWritten, lengthOf, mostLength}
+use Rattle.image.specs.Parts.{PutsRow, PutsRows}
+use Rattle.image.specs.Promises.{writtenOf, WritesImage}
+
+-- Two texts laid one after the other are their joining laid at once.
+pub sets-append : (vs ws out : List ℕ) (at next : ℕ) → next ≡ at + length vs
+    → sets (sets out at vs) next ws ≡ sets out at (vs ++ ws)
+sets-append [] ws out at next e = let f : next ≡ at = omega arith in rw f
+sets-append (v ∷ vs) ws out at next e = sets-append vs ws (set out at v) (suc at) next (omega arith)
+
+-- The digits of bytes that follow each other.
+pub text-append : (xs bs : List ℕ) → textOf (xs ++ bs) ≡ textOf xs ++ textOf bs
+text-append [] bs = refl
+text-append (a ∷ xs) bs = rw (text-append xs bs)
+
+pub sum-append : (xs bs : List ℕ) → sumOf (xs ++ bs) ≡ sumOf xs + sumOf bs
+sum-append [] bs = omega arith
+sum-append (a ∷ xs) bs = rw (sum-append xs bs) (omega arith)
+
+-- A record's line has 12 characters beside those of its data, its line feed included.
+pub length-record : (address type : ℕ) (bs : List ℕ) → length (recordText address type bs) ≡ 12 + 2 * length bs
+unfolding recordText
+length-record address type bs = simp (length-append, length-textOf) (omega arith)
+
+-- The lines of one row more, for a count of rows that is not 0.
+pub rows-turn : (left address : ℕ) (bs : List ℕ) → 0 < left
+    → rowsText left address bs
+    ≡ rowBy (blankOf (take 16 bs)) address (take 16 bs) ++ rowsText (left - 1) (address + 16) (drop 16 bs)
+rows-turn zero address bs h = absurd (omega arith)
+rows-turn (suc n) address bs h = let e : suc n - 1 ≡ n = omega arith in rw e
+
+pub written-turn : (left : ℕ) (bs : List ℕ) → 0 < left
+    → rowsWritten left bs ≡ writtenBy (blankOf (take 16 bs)) + rowsWritten (left - 1) (drop 16 bs)
+written-turn zero bs h = absurd (omega arith)
+written-turn (suc n) bs h = let e : suc n - 1 ≡ n = omega arith in rw e
+
+-- A row's line has 44 characters, or none where the row is left out.
+pub length-row : (b : Bool) (address : ℕ) (row : List ℕ) → length row ≡ 16
+    → length (rowBy b address row) ≡ 44 * writtenBy b
+length-row true address row h = refl
+length-row false address row h = length-record address 0 row ∙ rw h
+
+-- What a record is laid as: a character, three texts, and a last character.
+five-laid : (h b t out : List ℕ) (at c f : ℕ) {n m r q : ℕ}
+    → n ≡ at + 1 → m ≡ n + length h → r ≡ m + length b → q ≡ r + length t
+    → set (sets (sets (sets (set out at c) n h) m b) r t) q f ≡ sets out at (c ∷ h ++ (b ++ (t ++ (f ∷ []))))
+five-laid h b t out at c f {n} {m} {r} {q} e g k l =
+    sets-append t (f ∷ []) (sets (sets (set out at c) n h) m b) r q l
+    ∙ sets-append b (t ++ (f ∷ [])) (sets (set out at c) n h) m r k
+    ∙ sets-append h (b ++ (t ++ (f ∷ []))) (set out at c) n m g
+    ∙ rw (e, add-one at)
+
+-- The byte that brings two sums to 0, from the first and then the second modulo 256.
+check-by : (h b : ℕ) {s t k : ℕ} → s ≡ (0 + h) % 256 → t ≡ (s + b) % 256 → k ≡ (256 - t) % 256
+    → k ≡ (256 - (h + b) % 256) % 256
+check-by h b {s} {t} e f g = let d : t ≡ (h + b) % 256 = omega arith in rw (g, d)
+
+-- A record's bytes before its data, as the code takes them.
+abbrev headOf : ℕ → ℕ → List ℕ → List ℕ
+headOf address type bs = length bs % 256 ∷ address / 256 % 256 ∷ address % 256 ∷ type ∷ []
+
+-- A record's parts laid one after the other are its line, where nothing of it is lost to the head's remainders.
+pub record-laid : (address type : ℕ) (bs out : List ℕ) (at : ℕ) {s t k : ℕ} → address < 65536 → length bs < 256
+    → s ≡ (0 + sumOf (headOf address type bs)) % 256 → t ≡ (s + sumOf bs) % 256 → k ≡ (256 - t) % 256
+    → set (sets (sets (sets (set out at 58) (at + 1) (textOf (headOf address type bs))) (at + 9) (textOf bs))
+    (at + 9 + 2 * length bs) (textOf (k ∷ []))) (at + 9 + 2 * length bs + 2) 10
+    ≡ sets out at (recordText address type bs)
+unfolding recordText
+record-laid address type bs out at {s} {t} {k} p q e f g =
+    let a : length bs % 256 ≡ length bs = omega arith in
+    let b : address / 256 % 256 ≡ address / 256 = omega arith in
+    let head = length bs ∷ address / 256 ∷ address % 256 ∷ type ∷ [] in
+    let h = check-by (sumOf head) (sumOf bs) (rw (a, b) at e) f g in
+    let d : k ≡ checkOf (fieldsOf address type bs) = h ∙ rw (sum-append head bs) in
+    five-laid (textOf (headOf address type bs)) (textOf bs) (textOf (k ∷ [])) out at 58 10
+    refl (omega arith) (omega (arith, length-textOf bs)) (omega arith)
+    ∙ rw (a, b, d, text-append bs, append-assoc)
+
+-- A row is written once at most.
+written-most : (b : Bool) → writtenBy b ≤ 1
+written-most true = omega arith
+written-most false = omega arith
+
+-- One turn of the rows: with a row laid, what is left is laid after it, and what the text's length says of that.
+pub rows-laid : (array out : List ℕ) (at from left : ℕ) {row out′ : List ℕ} {r : ℕ}
+    → 0 < left → from + left * 16 ≤ length array → row ≡ take 16 (drop from array) → PutsRow from row out at r out′
+    → (sets out′ r (rowsText (left - 1) (from + 16) (drop (from + 16) array))
+    ≡ sets out at (rowsText left from (drop from array)))
+    × (r + (44 * rowsWritten (left - 1) (drop (from + 16) array) + 12)
+    ≡ at + (44 * rowsWritten left (drop from array) + 12))
+    × (r ≤ at + 44)
+rows-laid array out at from left {row} {out′} {r} h k e p =
+    let b = blankOf row in
+    let n : length row ≡ 16 = rw e (length-take-le 16 (drop from array) (simp length-drop (omega arith))) in
+    let m : r ≡ at + length (rowBy b from row) = p .next ∙ rw (length-row b from row n) in (
+      rw (p .said, sets-append (rowBy b from row) (rowsText (left - 1) (from + 16) (drop (from + 16) array)) out at r m)
+          (rw (rows-turn left from (drop from array) h, ← e, drop-drop 16 from array)),
+      rw (written-turn left (drop from array) h, ← e, drop-drop 16 from array, p .next) (omega arith),
+      omega (arith, p .next, written-most b),
+    )
+
+-- With no row left, the end record laid makes the whole fixed form.
+pub rows-done : (array out out₀ : List ℕ) (at from left : ℕ) {out′ : List ℕ}
+    → left ≡ 0 → out′ ≡ sets out at (recordText 0 1 [])
+    → sets out at (rowsText left from (drop from array)) ≡ sets out₀ 0 (imageText array)
+    → at + (44 * rowsWritten left (drop from array) + 12) ≡ lengthOf array
+    → PutsRows array out₀ (at + 12) out′
+rows-done array out out₀ at from left z e f g = record { said = e ∙ (rw z at f); next = rw z at g }
+
+-- The lines of so many rows have 44 characters for each that is written, and 12.
+length-rows : (n address : ℕ) (bs : List ℕ) → n * 16 ≤ length bs
+    → length (rowsText n address bs) ≡ 44 * rowsWritten n bs + 12
+length-rows zero address bs h = length-record 0 1 []
+length-rows (suc n) address bs h =
+    let row = take 16 bs in
+    let l : n * 16 ≤ length (drop 16 bs) = simp length-drop (omega arith) in
+    omega (
+      arith,
+      length-append (rowBy (blankOf row) address row) (rowsText n (address + 16) (drop 16 bs)),
+      length-row (blankOf row) address row (length-take-le 16 bs (omega arith)),
+      length-rows n (address + 16) (drop 16 bs) l,
+    )
+
+-- No more rows are written than there are.
+rows-most : (n : ℕ) (bs : List ℕ) → rowsWritten n bs ≤ n
+rows-most zero bs = omega arith
+rows-most (suc n) bs = omega (arith, written-most (blankOf (take 16 bs)), rows-most n (drop 16 bs))
+
+-- An array's fixed form laid over a buffer that is long enough for the longest is that form, and after it what was there.
+image-laid : (array out : List ℕ) → mostLength (length array) ≤ length out
+    → sets out 0 (imageText array) ≡ imageText array ++ drop (lengthOf array) out
+unfolding imageText
+image-laid array out h =
+    let n = length array / 16 in
+    let l : length (rowsText n 0 array) ≡ lengthOf array = length-rows n 0 array (omega arith) in
+    let k : 0 + length (rowsText n 0 array) ≤ length out = omega (arith, rows-most n array) in
+    sets-eq (rowsText n 0 array) out 0 k ∙ rw (zero-add, l)
+
+-- The three ends of writing: an array of another size, a buffer that may be too short, and the form written.
+pub refuses-size : (array out : List ℕ) → (length array ≡ imageSize → ⊥) → WritesImage array out (Refused 5 0) out
+unfolding writtenOf meant
+refuses-size array out h =
+    let e = ne-eqb (length array) imageSize h in
+    record { reply = rw e; said = rw e }
+
+pub refuses-room : (array out : List ℕ) → length array ≡ imageSize → length out < mostLength (length array)
+    → WritesImage array out (Refused 19 0) out
+unfolding writtenOf meant
+refuses-room array out h k =
+    let e = eq-eqb (length array) imageSize h in
+    let f = lt-leb (mostLength (length array)) (length out) k in
+    record { reply = rw (e, f); said = rw (e, f) }
+
+pub writes : (array out : List ℕ) {r : ℕ} {out′ : List ℕ}
+    → length array ≡ imageSize → mostLength (length array) ≤ length out → PutsRows array out r out′
+    → WritesImage array out (Accepted r) out′
+unfolding writtenOf meant
+writes array out h k p =
+    let e = eq-eqb (length array) imageSize h in
+    let f = le-leb (mostLength (length array)) (length out) k in
+    record { reply = rw (e, f, p .next); said = rw (e, f) (p .said ∙ image-laid array out k) }

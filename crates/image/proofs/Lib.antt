@@ -1,0 +1,5 @@
+pub mod Laid
+pub mod Placed
+pub mod Heard
+pub mod Turns
+pub mod Replies

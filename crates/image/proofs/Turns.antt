@@ -1,0 +1,134 @@
+-- Laws of reading line after line: what one line leaves of the text. Assumes nothing.
+use Prim.Native.Nat.{ℕ, suc, _+_, _-_, _≤_, _<_}
+use mathlib.Core.List.{List, [], _∷_}
+use mathlib.Core.Path.{_≡_, refl, ap, sym, _∙_}
+use native.Mathlib.Omega.{arith}
+use lib.ListN.{length, take, drop, length-drop}
+use lib.Seq.{drop-drop, take-take}
+use Rattle.hexfile.specs.Lines.{linesOf, firstOf, trimmed, stepOf}
+use Rattle.hexfile.specs.Cells.{settledOf}
+use Rattle.hexfile.specs.declared.lines.Line.the-variants.{At, End}
+use Rattle.hexfile.proofs.LineLaws.{first-take, lines-cons, lines-none, line-fits, trim-take, trim-length}
+use Rattle.refusals.specs.Refusals.{meant}
+use Rattle.refusals.specs.declared.Reply.the-variants.{Accepted, Refused}
+use Rattle.image.specs.Form.{bytesOf}
+use Rattle.image.specs.Reading.{taken, bad, givenOf, saysOf, lineBy, linesRead}
+use Rattle.image.specs.Parts.{Hears, ReadsLines}
+use Rattle.image.specs.declared.records.Says.{Says}
+use Rattle.image.specs.declared.records.Says.the-variants.{Gives, Ends, Faulty}
+
+-- A line step that answers a line has lines before it, and the line's two ends are those of the first.
+step-at : (ls : List (List ℕ)) (at t f : ℕ) → stepOf at ls ≡ At t f
+    → (ls ≡ [] → ⊥) × (t ≡ at + length (trimmed (firstOf ls))) × (f ≡ at + length (firstOf ls))
+unfolding stepOf
+step-at [] at t f e = let z : _≡_ {A = ℕ} 0 1 = cc in absurd (omega arith)
+step-at (l ∷ ls) at t f e =
+    let p : at + length (trimmed l) ≡ t = cc in
+    let q : at + length l ≡ f = cc in
+    (λ h. let z : _≡_ {A = ℕ} 0 1 = cc in omega arith, omega arith, omega arith)
+
+-- And one that answers the end has none.
+step-none : (ls : List (List ℕ)) (at : ℕ) → stepOf at ls ≡ End → ls ≡ []
+unfolding stepOf
+step-none [] at e = refl
+step-none (l ∷ ls) at e = let z : _≡_ {A = ℕ} 0 1 = cc in absurd (omega arith)
+
+-- A text with lines is not empty.
+some-text : (xs : List ℕ) → (linesOf xs ≡ [] → ⊥) → 0 < length xs
+some-text [] h = absurd (h refl)
+some-text (x ∷ xs) h = omega arith
+
+-- A line found in a text: where it starts and ends, its characters, and the lines after it.
+pub record Found (text : List ℕ) (at t f : ℕ) : Type 0 where
+  pub here : at < length text
+  pub from : at ≤ t
+  pub ends : t ≤ f
+  pub fits : f ≤ length text
+  pub line : take (t - at) (drop at text) ≡ trimmed (firstOf (linesOf (drop at text)))
+  pub lines : linesOf (drop at text) ≡ firstOf (linesOf (drop at text)) ∷ linesOf (drop (f + 1) text)
+  pub place : f ≡ at + length (firstOf (linesOf (drop at text)))
+
+pub found : (text : List ℕ) (at t f : ℕ) → At t f ≡ stepOf at (linesOf (drop at text)) → Found text at t f
+found text at t f e =
+    let l : List ℕ = firstOf (linesOf (drop at text)) in
+    let s = step-at (linesOf (drop at text)) at t f (sym e) in
+    let n : length (drop at text) ≡ length text - at = length-drop at text in
+    let p : t ≡ at + length (trimmed l) = s .1 in
+    let q : f ≡ at + length l = s .2 in
+    let h : 0 < length (drop at text) = some-text (drop at text) (s .0) in
+    let k : length (trimmed l) ≤ length l = trim-length l in
+    let c : t - at ≡ length (trimmed l) = omega arith in
+    let g : at + suc (length l) ≡ f + 1 = omega arith in
+    let d : drop (suc (length l)) (drop at text) ≡ drop (f + 1) text =
+    drop-drop (suc (length l)) at text ∙ ap (λ (i : ℕ). drop i text) g in
+    let m : trimmed l ≡ take (length (trimmed l)) (drop at text) =
+    trim-take l ∙ ap (λ (xs : List ℕ). take (length (trimmed l)) xs) (first-take (drop at text))
+    ∙ take-take (length (trimmed l)) (length l) (drop at text) k in
+    record {
+      here = omega arith;
+      from = omega arith;
+      ends = omega arith;
+      fits = omega (arith, line-fits text at (omega arith));
+      line = rw c (sym m);
+      lines = rw (← d) (lines-cons (drop at text) h);
+      place = q;
+    }
+
+-- One line read: what it says decides, and the lines after it are read on from the next place.
+turn-line : (total at next : ℕ) (cells line l : List ℕ) (all ls : List (List ℕ)) (r : Says)
+    → all ≡ l ∷ ls → line ≡ trimmed l → next ≡ at + length l + 1 → r ≡ saysOf cells line
+    → linesRead total at cells all ≡ lineBy r at next cells ls (linesRead total next (givenOf cells (bytesOf line)) ls)
+turn-line total at next cells line l all ls r e f g h = rw (h, f, g, e)
+
+turn : (text cells cells′ : List ℕ) (at t f : ℕ) (r : Says) → Found text at t f
+    → Hears (take (t - at) (drop at text)) cells r cells′
+    → linesRead (length text) at cells (linesOf (drop at text))
+    ≡ lineBy r at (f + 1) cells (linesOf (drop (f + 1) text))
+    (linesRead (length text) (f + 1) (givenOf cells (bytesOf (take (t - at) (drop at text)))) (linesOf (drop (f + 1) text)))
+turn text cells cells′ at t f r w h =
+    turn-line (length text) at (f + 1) cells _ _ _ _ r (w .lines) (w .line) (ap (λ (n : ℕ). n + 1) (w .place)) (h .said)
+
+-- Where no line is left there is no end record.
+pub turn-none : (text cells : List ℕ) (at : ℕ) → End ≡ stepOf at (linesOf (drop at text))
+    → linesRead (length text) at cells (linesOf (drop at text)) ≡ bad 17 (length text)
+turn-none text cells at e = rw (step-none (linesOf (drop at text)) at (sym e))
+
+-- A line that gives data leaves the lines after it.
+pub turn-gives : (text cells cells′ : List ℕ) (at t f : ℕ) (r : Says) → Found text at t f
+    → Hears (take (t - at) (drop at text)) cells r cells′ → r ≡ Gives
+    → linesRead (length text) at cells (linesOf (drop at text))
+    ≡ linesRead (length text) (f + 1) cells′ (linesOf (drop (f + 1) text))
+turn-gives text cells cells′ at t f r w h e =
+    turn text cells cells′ at t f r w h ∙ rw (h .kept, e)
+
+-- A faulty line is refused at its place.
+pub turn-faulty : (text cells cells′ : List ℕ) (at t f k : ℕ) (r : Says) → Found text at t f
+    → Hears (take (t - at) (drop at text)) cells r cells′ → r ≡ Faulty k
+    → linesRead (length text) at cells (linesOf (drop at text)) ≡ bad k at
+turn-faulty text cells cells′ at t f k r w h e = turn text cells cells′ at t f r w h ∙ rw e
+
+-- Nothing may stand after the end record's line.
+pub turn-after : (text cells cells′ : List ℕ) (at t f : ℕ) (r : Says) → Found text at t f
+    → Hears (take (t - at) (drop at text)) cells r cells′ → r ≡ Ends → f + 1 < length text
+    → linesRead (length text) at cells (linesOf (drop at text)) ≡ bad 18 (f + 1)
+turn-after text cells cells′ at t f r w h e n =
+    turn text cells cells′ at t f r w h
+    ∙ rw (e, lines-cons (drop (f + 1) text) (simp length-drop (omega arith)))
+
+pub turn-ends : (text cells cells′ : List ℕ) (at t f : ℕ) (r : Says) → Found text at t f
+    → Hears (take (t - at) (drop at text)) cells r cells′ → r ≡ Ends → length text ≤ f + 1
+    → linesRead (length text) at cells (linesOf (drop at text)) ≡ taken (settledOf cells′)
+turn-ends text cells cells′ at t f r w h e n =
+    turn text cells cells′ at t f r w h
+    ∙ rw (h .kept, e, lines-none (drop (f + 1) text) (simp length-drop (omega arith)))
+
+-- The reply to a text, by what its lines give.
+pub lines-refused : (text cells cells′ : List ℕ) (k p : ℕ) → linesRead (length text) 0 cells (linesOf text) ≡ bad k p
+    → ReadsLines text cells (Refused k p) cells′
+unfolding meant
+lines-refused text cells cells′ k p e = record { reply = rw e; kept = rw e }
+
+pub lines-accepted : (text cells cells′ : List ℕ) → linesRead (length text) 0 cells (linesOf text) ≡ taken (settledOf cells′)
+    → ReadsLines text cells (Accepted (length text)) cells′
+unfolding meant
+lines-accepted text cells cells′ e = record { reply = rw e; kept = rw e }

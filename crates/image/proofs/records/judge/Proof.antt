@@ -1,0 +1,86 @@
+-- `image::records::judge` meets its contract.
+use mathlib.Core.Path.{sym, _∙_}
+use Rattle.image.specs.Form.{typed}
+use Rattle.image.proofs.Heard.{judge-unsound, judge-untyped, judge-end, judge-placed}
+use borrow.Author.Needs.{needs}
+use Rattle.image.proofs.records.judge.Statement.{statement}
+use Rattle.image.proofs.records.judge.Tie as tie
+
+sum-requires : tie.Need-sum-requires
+sum-requires c κs = search needs
+
+returns : tie.Need-returns
+returns c = judge-unsound _ _ _ (c .before .sum .ensures) (c .if1 .taken)
+
+shared-slice-read-count : tie.Need-shared-slice-read-count
+shared-slice-read-count c = search needs
+
+shared-slice-read-join : tie.Need-shared-slice-read-join
+shared-slice-read-join c = search needs
+
+shared-slice-read-join-2 : tie.Need-shared-slice-read-join-2
+shared-slice-read-join-2 c = search needs
+
+join-requires : tie.Need-join-requires
+join-requires c κs = search needs
+
+shared-slice-read-kind : tie.Need-shared-slice-read-kind
+shared-slice-read-kind c = search needs
+
+is-typed-requires : tie.Need-is-typed-requires
+is-typed-requires c κs = search needs
+
+returns-2 : tie.Need-returns-2
+unfolding typed
+returns-2 c =
+    judge-end _ _ _ (c .before .before .before .before .before .before .before .before .before .sum .ensures) (c .before .before .before .before .before .before .before .before .if1 .left) (rw (← (c .before .before .before .before .join .ensures)) (sym (c .before .before .is-typed .ensures) ∙ c .before .if2 .taken)) (c .if3 .taken)
+
+sub-last : tie.Need-sub-last
+sub-last c = search needs
+
+sub-place : tie.Need-sub-place
+sub-place c = search needs
+
+part-place-start : tie.Need-part-place-start
+part-place-start c = search needs
+
+part-place-end : tie.Need-part-place-end
+part-place-end c = search needs
+
+place-requires : tie.Need-place-requires
+place-requires c κs = search needs
+
+same-length : tie.Need-same-length
+same-length c = search needs
+
+returns-3 : tie.Need-returns-3
+unfolding typed
+returns-3 c =
+    judge-placed _ _ _ _ _ (c .before .before .before .before .before .before .before .before .before .before .before .before .before .before .sum .ensures) (c .before .before .before .before .before .before .before .before .before .before .before .before .before .if1 .left) (rw (← (c .before .before .before .before .before .before .before .before .before .join .ensures)) (sym (c .before .before .before .before .before .before .before .is-typed .ensures) ∙ c .before .before .before .before .before .before .if2 .taken)) (c .before .before .before .before .before .if3 .left) (c .before .before .before .before .before .before .before .before .before .before .before .before .before .before .before .before .before .pre) (rw (c .before .before .before .before .before .before .before .before .before .join .ensures) at (c .before .before .place .ensures))
+
+returns-4 : tie.Need-returns-4
+unfolding typed
+returns-4 c =
+    judge-untyped _ _ _ (c .before .before .before .before .before .before .before .before .sum .ensures) (c .before .before .before .before .before .before .before .if1 .left) (rw (← (c .before .before .before .join .ensures)) (sym (c .before .is-typed .ensures) ∙ c .if2 .left))
+
+pub judge-spec : {M : Type 1} → statement M
+judge-spec =
+    tie.close
+    (tie.spec
+    sum-requires
+    returns
+    shared-slice-read-count
+    shared-slice-read-join
+    shared-slice-read-join-2
+    join-requires
+    shared-slice-read-kind
+    is-typed-requires
+    returns-2
+    sub-last
+    sub-place
+    part-place-start
+    part-place-end
+    place-requires
+    same-length
+    returns-3
+    returns-4)

@@ -1,0 +1,72 @@
+-- The form of a record: colon, count, address, type, data, checksum (document 01, Image files).
+use Prim.Native.Nat.{ℕ, _+_, _*_}
+use mathlib.Core.Bool.{Bool, true, false}
+use mathlib.Core.List.{List}
+use lib.Dec.{eqb, leb}
+use lib.ListN.{length, getD, take, drop}
+use Rattle.part.specs.Numbers.{x4323, byteValues}
+use Rattle.part.specs.Kind.{kindOf}
+use Rattle.part.specs.Cases.{both, either}
+use Rattle.hexfile.specs.Pairs.{paired, pairsOf}
+
+-- The array's size that an image is read into and written from (Refusal numbers, 5).
+abbrev pub imageSize : ℕ
+imageSize = kindOf x4323 .size
+
+-- The longest text (Refusal numbers, 11).
+abbrev pub mostText : ℕ
+mostText = 65536
+
+-- The character that opens a record (Image files, colon).
+abbrev pub colon : ℕ
+colon = 0x3A
+
+-- Bytes in a row, and so in each record that the writer makes (Image files, the writer).
+abbrev pub rowSize : ℕ
+rowSize = 16
+
+-- The type of a data record, and that of the end record (Refusal numbers, 14).
+abbrev pub dataType : ℕ
+dataType = 0
+
+abbrev pub endType : ℕ
+endType = 1
+
+-- Characters of a record that gives so many bytes (Image files, 11 + 2 x count).
+abbrev pub charactersIn : ℕ → ℕ
+charactersIn count = 11 + 2 * count
+
+-- A record's bytes: those of the pairs after the colon, checksum included.
+unfoldable pub bytesOf : List ℕ → List ℕ
+bytesOf l = pairsOf (drop 1 l)
+
+-- The fields of a record's bytes, in their order (Image files, count, 16-bit address, type, data).
+abbrev pub countOf : List ℕ → ℕ
+countOf bs = getD bs 0 0
+
+abbrev pub addressOf : List ℕ → ℕ
+addressOf bs = getD bs 1 0 * byteValues + getD bs 2 0
+
+abbrev pub typeOf : List ℕ → ℕ
+typeOf bs = getD bs 3 0
+
+abbrev pub dataOf : List ℕ → List ℕ
+dataOf bs = take (countOf bs) (drop 4 bs)
+
+-- A line is well formed: a colon, then pairs of digits, and as many characters as its count says (Refusal numbers, 12).
+unfoldable pub wellFormed : List ℕ → Bool
+wellFormed l = both (eqb (getD l 0 0) colon) (both (paired (drop 1 l)) (eqb (length l) (charactersIn (countOf (bytesOf l)))))
+
+-- Data, the end with neither count nor address, or a type that is not taken (Refusal numbers, 14).
+abbrev pub typeBy : Bool → Bool → Bool → Bool → Bool
+typeBy true end noCount noAddress = true
+typeBy false true noCount noAddress = both noCount noAddress
+typeBy false false noCount noAddress = false
+
+-- Whether a record's type is taken (Refusal numbers, 14).
+unfoldable pub typed : List ℕ → Bool
+typed bs = typeBy (eqb (typeOf bs) dataType) (eqb (typeOf bs) endType) (eqb (countOf bs) 0) (eqb (addressOf bs) 0)
+
+-- Whether a record's data lie in an array of a size; no data lie anywhere (Refusal numbers, 15).
+unfoldable pub inside : ℕ → List ℕ → Bool
+inside size bs = either (eqb (countOf bs) 0) (leb (addressOf bs + countOf bs) size)

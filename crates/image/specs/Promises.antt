@@ -1,0 +1,56 @@
+-- What the operations promise, for every input: the whole reply, and what array and buffer hold at the end. Every definition is total.
+use Prim.Native.Nat.{ℕ}
+use mathlib.Core.Bool.{Bool, true, false}
+use mathlib.Core.List.{List, _++_}
+use mathlib.Core.Path.{_≡_}
+use lib.Dec.{eqb, leb}
+use lib.ListN.{length, drop}
+use Rattle.refusals.specs.Refusals.{Verdict, accepted, refused, meant}
+use Rattle.refusals.specs.declared.Reply.{Reply}
+use Rattle.image.specs.Form.{imageSize}
+use Rattle.image.specs.Reading.{Reading, taken, bad, readingOf}
+use Rattle.image.specs.Writing.{imageText, lengthOf, mostLength}
+
+-- Refusal 5 comes before anything that the text says (Refusal numbers, 5).
+abbrev pub imageBy : Bool → Reading → Reading
+imageBy false r = bad 5 0
+imageBy true r = r
+
+-- What a text gives for an array (Refusal numbers, 5, 11 to 18).
+unfoldable pub imageOf : List ℕ → List ℕ → Reading
+imageOf text array = imageBy (eqb (length array) imageSize) (readingOf (length array) text)
+
+-- The paper's answer to a reading: acceptance with the length that was read, or the refusal.
+abbrev pub verdictOf : Reading → ℕ → Verdict
+verdictOf (taken array) n = accepted n
+verdictOf (bad k p) n = refused k p
+
+-- The array after a reading: refused, as it was (Refusal numbers, last lines).
+abbrev pub arrayAfter : Reading → List ℕ → List ℕ
+arrayAfter (taken array) old = array
+arrayAfter (bad k p) old = old
+
+-- Reading an image: its verdict, and the array that the text gives (Refusal numbers, 5, 11 to 18; Image files).
+pub record ReadsImage (text array : List ℕ) (r : Reply) (array′ : List ℕ) : Type 0 where
+  pub reply : meant r ≡ verdictOf (imageOf text array) (length text)
+  pub kept : array′ ≡ arrayAfter (imageOf text array) array
+
+-- Refusals 5 and 19 in numeric order, else the length written (Refusal numbers, 5, 19; Image files, it answers the length).
+abbrev pub writeBy : Bool → Bool → ℕ → Verdict
+writeBy false b n = refused 5 0
+writeBy true false n = refused 19 0
+writeBy true true n = accepted n
+
+-- The writer's verdict (Refusal numbers, 5, 19).
+unfoldable pub writtenOf : List ℕ → List ℕ → Verdict
+writtenOf array out = writeBy (eqb (length array) imageSize) (leb (mostLength (length array)) (length out)) (lengthOf array)
+
+-- The buffer after writing: the fixed form, and after it what was there; refused, as it was (Image files, bytes after that stay).
+abbrev pub outAfter : Verdict → List ℕ → List ℕ → List ℕ
+outAfter (accepted n) array out = imageText array ++ drop n out
+outAfter (refused k p) array out = out
+
+-- Writing an image: its verdict, and the buffer with the fixed form at its start (Refusal numbers, 5, 19; Image files).
+pub record WritesImage (array out : List ℕ) (r : Reply) (out′ : List ℕ) : Type 0 where
+  pub reply : meant r ≡ writtenOf array out
+  pub said : out′ ≡ outAfter (writtenOf array out) array out

@@ -1,0 +1,77 @@
+// Reading an image.
+use crate::forms;
+use crate::records;
+use crate::records::Says;
+use hexfile::cells;
+use hexfile::lines;
+use hexfile::lines::Line;
+use refusals::Reply;
+ghost use mathlib.Core.Path.{_≡_};
+ghost use Prim.Native.Nat.{_≤_};
+ghost use lib.ListN.{length};
+ghost use Rattle.image.specs.Parts.{ReadsLines, ReadsInto};
+ghost use Rattle.image.specs.Promises.{ReadsImage};
+
+// The longest text.
+pub const MOST_TEXT: usize = 65_536;
+
+// Room for the cells of the largest array.
+const CELLS: usize = 4096;
+
+// Reads the lines into the cells, up to the end record or the first fault.
+fn read_lines(text: &[u8], cells: &mut [u16]) -> Reply
+    requires { ⌜ length (now text) ≤ 65536 ⌝ }
+    ensures { λ r. ⌜ ReadsLines (now (text .entry)) (now (cells .entry)) r (now (cells .exit)) ⌝ }
+{
+    let mut at = 0;
+    loop {
+        let line = lines::next_line(text, at);
+        let Line::At(trimmed, feed) = line else {
+            return Reply::Refused(17, text.len());
+        };
+        let says = records::hear(&text[at..trimmed], cells);
+        let next = feed + 1;
+        match says {
+            Says::Gives => {
+                at = next;
+            }
+            Says::Ends => {
+                if next < text.len() {
+                    return Reply::Refused(18, next);
+                }
+                return Reply::Accepted(text.len());
+            }
+            Says::Faulty(number) => {
+                return Reply::Refused(number, at);
+            }
+        }
+    }
+}
+
+// Reads a text into the cells, and only if it is accepted their bytes into the array.
+fn read_into(text: &[u8], cells: &mut [u16], array: &mut [u8]) -> Reply
+    requires { ⌜ length (now text) ≤ 65536 ⌝ }
+    requires { ⌜ length (now array) ≡ length (now cells) ⌝ }
+    ensures { λ r. ⌜ ReadsInto (now (text .entry)) (now (cells .entry)) (now (array .entry)) r (now (array .exit)) ⌝ }
+{
+    let reply = read_lines(text, cells);
+    let Reply::Accepted(_) = reply else {
+        return reply;
+    };
+    cells::settle(cells, array);
+    reply
+}
+
+// Reads an image into an array, or refuses it with 5 or 11 to 18 and leaves the array alone.
+pub fn read_image(text: &[u8], array: &mut [u8]) -> Reply
+    ensures { λ r. ⌜ ReadsImage (now (text .entry)) (now (array .entry)) r (now (array .exit)) ⌝ }
+{
+    if array.len() != forms::image_size() {
+        return Reply::Refused(5, 0);
+    }
+    if text.len() > MOST_TEXT {
+        return Reply::Refused(11, 0);
+    }
+    let mut cells = [cells::NOT_GIVEN; CELLS];
+    read_into(text, &mut cells, array)
+}

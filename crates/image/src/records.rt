@@ -1,0 +1,135 @@
+// One line of an image: what it says to the cells read so far.
+use crate::forms;
+use hexfile::cells;
+use hexfile::pairs;
+use hexfile::sums;
+ghost use mathlib.Core.Path.{_≡_};
+ghost use Prim.Native.Nat.{_+_, _*_, _≤_, _<_};
+ghost use lib.Dec.{eqb};
+ghost use lib.ListN.{length, getD};
+ghost use Rattle.image.specs.Form.{charactersIn, typeBy};
+ghost use Rattle.image.specs.Parts.{Forms, Places, Judges, Hears};
+
+// A sound line gives data or ends the image; any other is refused with a number.
+pub enum Says {
+    Gives,
+    Ends,
+    Faulty(u8),
+}
+
+// Bytes of the longest record: count, address, type, 255 bytes of data, checksum.
+const MOST_BYTES: usize = 260;
+
+// Characters of a record that gives no data, and of the longest.
+const LEAST_LENGTH: usize = 11;
+
+const MOST_LENGTH: usize = 521;
+
+// Characters of a record that gives so many bytes.
+fn length_for(count: u8) -> usize
+    ensures { λ r. ⌜ r ≡ charactersIn count ⌝ }
+{
+    LEAST_LENGTH + 2 * (count as usize)
+}
+
+fn join(high: u8, low: u8) -> usize
+    ensures { λ r. ⌜ r ≡ high * 256 + low ⌝ }
+{
+    (high as usize) * 256 + (low as usize)
+}
+
+// Whether a record's type is taken: data, or an end that has neither count nor address.
+fn is_typed(kind: u8, count: u8, address: usize) -> bool
+    ensures { λ r. ⌜ r ≡ typeBy (eqb kind 0) (eqb kind 1) (eqb count 0) (eqb address 0) ⌝ }
+{
+    if kind == forms::DATA {
+        return true;
+    }
+    if kind == forms::END {
+        if count == 0 {
+            return address == 0;
+        }
+    }
+    false
+}
+
+// Puts the bytes of a line at the start of `room`, and answers whether it is well formed.
+fn form(line: &[u8], room: &mut [u8]) -> bool
+    requires { ⌜ 260 ≤ length (now room) ⌝ }
+    ensures { λ r. ⌜ Forms (now (line .entry)) r (now (room .exit)) ⌝ }
+{
+    if line.len() < LEAST_LENGTH {
+        return false;
+    }
+    if line.len() > MOST_LENGTH {
+        return false;
+    }
+    if line[0] != forms::COLON {
+        return false;
+    }
+    if pairs::decode(&line[1..], room) {
+        return line.len() == length_for(room[0]);
+    }
+    false
+}
+
+// Gives bytes to the cells from an address on, unless they lie beyond or are given already.
+fn place(address: usize, bytes: &[u8], cells: &mut [u16]) -> Says
+    ensures { λ r. ⌜ Places address (now (bytes .entry)) (now (cells .entry)) r (now (cells .exit)) ⌝ }
+{
+    if bytes.len() == 0 {
+        return Says::Gives;
+    }
+    if address > cells.len() {
+        return Says::Faulty(15);
+    }
+    if bytes.len() > cells.len() - address {
+        return Says::Faulty(15);
+    }
+    if cells::fresh(&cells[address..], bytes) {
+        cells::give(&mut cells[address..], bytes);
+        return Says::Gives;
+    }
+    Says::Faulty(16)
+}
+
+// What the bytes of a well-formed line say to the cells; data that may be given are given.
+fn judge(bytes: &[u8], cells: &mut [u16]) -> Says
+    requires { ⌜ length (now bytes) ≡ 5 + getD (now bytes) 0 0 ⌝ }
+    ensures { λ r. ⌜ Judges (now (bytes .entry)) (now (cells .entry)) r (now (cells .exit)) ⌝ }
+{
+    if sums::sum(0, bytes) != 0 {
+        return Says::Faulty(13);
+    }
+    let count = bytes[0];
+    let address = join(bytes[1], bytes[2]);
+    let kind = bytes[3];
+    if is_typed(kind, count, address) {
+        if kind == forms::END {
+            return Says::Ends;
+        }
+        let last = bytes.len() - 1;
+        return place(address, &bytes[forms::HEAD..last], cells);
+    }
+    Says::Faulty(14)
+}
+
+// The same, with room for the line's bytes lent.
+fn hear_with(line: &[u8], room: &mut [u8], cells: &mut [u16]) -> Says
+    requires { ⌜ 260 ≤ length (now room) ⌝ }
+    ensures { λ r. ⌜ Hears (now (line .entry)) (now (cells .entry)) r (now (cells .exit)) ⌝ }
+{
+    if form(line, room) {
+        let n = line.len() / 2;
+        return judge(&room[..n], cells);
+    }
+    Says::Faulty(12)
+}
+
+// What a line says to the cells; data that may be given are given.
+pub fn hear(line: &[u8], cells: &mut [u16]) -> Says
+    ensures { λ r. ⌜ Hears (now (line .entry)) (now (cells .entry)) r (now (cells .exit)) ⌝ }
+{
+    let mut room = [0u8; MOST_BYTES];
+    hear_with(line, &mut room, cells)
+}
