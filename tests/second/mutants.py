@@ -171,7 +171,7 @@ def main():
     release = HERE / "target" / "release"
     shutil.rmtree(WORK, ignore_errors=True)
     (WORK / "src").mkdir(parents=True)
-    for name in ["Cargo.toml", CHIP, WIRE, REG, "src/form.rs", "src/lib.rs", "src/main.rs"]:
+    for name in ["Cargo.toml", CHIP, WIRE, REG, "src/form.rs", "src/image.rs", "src/lib.rs", "src/main.rs"]:
         shutil.copy(HERE / name, WORK / name)
     cases = WORK / "all.cases"
     with open(cases, "wb") as out:

@@ -143,15 +143,20 @@ rows-most : (n : ℕ) (bs : List ℕ) → rowsWritten n bs ≤ n
 rows-most zero bs = omega arith
 rows-most (suc n) bs = omega (arith, written-most (blankOf (take 16 bs)), rows-most n (drop 16 bs))
 
+-- The length that is answered is that of the fixed form, and the longest is never exceeded.
+pub length-image : (array : List ℕ) → length (imageText array) ≡ lengthOf array
+unfolding imageText
+length-image array = length-rows (length array / 16) 0 array (omega arith)
+
+pub length-most : (array : List ℕ) → lengthOf array ≤ mostLength (length array)
+length-most array = omega (arith, rows-most (length array / 16) array)
+
 -- An array's fixed form laid over a buffer that is long enough for the longest is that form, and after it what was there.
 image-laid : (array out : List ℕ) → mostLength (length array) ≤ length out
     → sets out 0 (imageText array) ≡ imageText array ++ drop (lengthOf array) out
-unfolding imageText
 image-laid array out h =
-    let n = length array / 16 in
-    let l : length (rowsText n 0 array) ≡ lengthOf array = length-rows n 0 array (omega arith) in
-    let k : 0 + length (rowsText n 0 array) ≤ length out = omega (arith, rows-most n array) in
-    sets-eq (rowsText n 0 array) out 0 k ∙ rw (zero-add, l)
+    let k : 0 + length (imageText array) ≤ length out = omega (arith, length-image array, length-most array) in
+    sets-eq (imageText array) out 0 k ∙ rw (zero-add, length-image array)
 
 -- The three ends of writing: an array of another size, a buffer that may be too short, and the form written.
 pub refuses-size : (array out : List ℕ) → (length array ≡ imageSize → ⊥) → WritesImage array out (Refused 5 0) out

@@ -3,5 +3,6 @@
 
 pub mod chip;
 pub mod form;
+pub mod image;
 pub mod register;
 pub mod wire;

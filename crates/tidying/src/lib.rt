@@ -1,0 +1,79 @@
+// The work of the program `tidy`: from the text of an image to what is written for it.
+pub mod rooms;
+
+use image::Reply;
+ghost use mathlib.Core.Path.{_≡_};
+ghost use Prim.Native.Nat.{_+_, _≤_};
+ghost use lib.ListN.{length};
+ghost use Rattle.image.specs.Form.{imageSize};
+ghost use Rattle.image.specs.Writing.{imageText, mostLength};
+ghost use Rattle.tidying.specs.Shown.{decimalOf, refusalLine, shownOf, Starts, Lays};
+
+// Room for the longest fixed form.
+pub const ROOM: usize = 11_276;
+
+// Bytes of the array that an image is read into.
+const SIZE: usize = 4096;
+
+// The most digits of a number.
+const DIGITS: usize = 20;
+
+const BLANK: u8 = 0x20;
+
+// Writes a number in decimal over `out` from `at` on, and answers where it ends.
+fn put_decimal(value: u64, out: &mut [u8], at: usize) -> usize
+    requires { ⌜ at + 20 ≤ length (now out) ⌝ }
+    ensures { λ r. ⌜ Lays (decimalOf value) (now (out .entry)) at r (now (out .exit)) ⌝ }
+    ensures { λ r. ⌜ r ≤ at + 20 ⌝ }
+{
+    let mut digits = [0u8; DIGITS];
+    let n = io::decimal(value, &mut digits);
+    bytes::copy(&digits[..n], &mut out[at..]);
+    at + n
+}
+
+// Writes a refusal's line over the start of `out`, and answers its length.
+fn put_refusal(number: u8, place: usize, out: &mut [u8]) -> usize
+    requires { ⌜ 42 ≤ length (now out) ⌝ }
+    ensures { λ r. ⌜ Starts (refusalLine number place) (now (out .entry)) r (now (out .exit)) ⌝ }
+{
+    let space = put_decimal(number as u64, out, 0);
+    out[space] = BLANK;
+    let feed = put_decimal(place as u64, out, space + 1);
+    out[feed] = hexfile::lines::LINE_FEED;
+    feed + 1
+}
+
+// Writes the fixed form of an array over `out`, or the refusal's line, and answers the length.
+fn put_image(array: &[u8], out: &mut [u8]) -> usize
+    requires { ⌜ length (now array) ≡ imageSize ⌝ }
+    requires { ⌜ mostLength imageSize ≤ length (now out) ⌝ }
+    ensures { λ r. ⌜ Starts (imageText (now (array .entry))) (now (out .entry)) r (now (out .exit)) ⌝ }
+{
+    let reply = image::write_image(array, out);
+    match reply {
+        Reply::Accepted(length) => length,
+        Reply::Refused(number, place) => put_refusal(number, place, out),
+    }
+}
+
+// The same as `fixed_form`, with the array lent.
+fn put_text(text: &[u8], array: &mut [u8], out: &mut [u8]) -> usize
+    requires { ⌜ length (now array) ≡ imageSize ⌝ }
+    requires { ⌜ mostLength imageSize ≤ length (now out) ⌝ }
+    ensures { λ r. ⌜ Starts (shownOf (now (text .entry))) (now (out .entry)) r (now (out .exit)) ⌝ }
+{
+    let reply = image::read_image(text, array);
+    match reply {
+        Reply::Accepted(_) => put_image(array, out),
+        Reply::Refused(number, place) => put_refusal(number, place, out),
+    }
+}
+
+// Writes the fixed form of an image's text at the start of `out`, or the line of its refusal, and answers the length.
+pub fn fixed_form(text: &[u8], out: &mut [u8; ROOM]) -> usize
+    ensures { λ r. ⌜ Starts (shownOf (now (text .entry))) (now (out .entry)) r (now (out .exit)) ⌝ }
+{
+    let mut array = [0u8; SIZE];
+    put_text(text, &mut array, out)
+}
