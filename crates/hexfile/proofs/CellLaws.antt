@@ -7,8 +7,10 @@ use native.Mathlib.Omega.{arith}
 use lib.Dec.{eqb, ltb}
 use lib.ListN.{length, getD, take, drop, set, replicate, take-append-drop, drop-of-length-le}
 use lib.Seq.{drop-cons, take-suc-set, drop-set-lt, take-all}
+use borrow.Author.Tests.{eqb-true}
 use Rattle.part.specs.Cases.{both}
 use Rattle.hexfile.specs.Cells.{notGiven, blankByte, freshOf, giveOf, byteBy, settledOf, blankOf}
+use Rattle.part.proofs.Laws.{both-split}
 
 -- The rows keep their lengths.
 pub length-giveOf : (cs bs : List ℕ) → length (giveOf cs bs) ≡ length cs
@@ -25,15 +27,28 @@ pub settled-none : (n : ℕ) → settledOf (replicate n notGiven) ≡ replicate 
 settled-none zero = refl
 settled-none (suc n) = ap (λ (l : List ℕ). blankByte ∷ l) (settled-none n)
 
+-- Cells settle one by one.
+pub settled-append : (xs ys : List ℕ) → settledOf (xs ++ ys) ≡ settledOf xs ++ settledOf ys
+settled-append [] ys = refl
+settled-append (x ∷ xs) ys = rw (settled-append xs ys)
+
+-- Cells of which none is given are fresh for any bytes.
+pub fresh-none : (n : ℕ) (bs : List ℕ) → freshOf (replicate n notGiven) bs ≡ true
+fresh-none zero bs = refl
+fresh-none (suc n) [] = refl
+fresh-none (suc n) (b ∷ bs) = fresh-none n bs
+
 -- The cell at an index decides, with those behind it, whether all are fresh.
 pub fresh-turn : (cs bs : List ℕ) (i : ℕ) → i < length cs → i < length bs
     → freshOf (drop i cs) (drop i bs) ≡ both (eqb (getD cs i 0) notGiven) (freshOf (drop (suc i) cs) (drop (suc i) bs))
 fresh-turn cs bs i p q = rw (drop-cons cs i 0 p, drop-cons bs i 0 q)
 
-fresh-nil : (cs : List ℕ) → freshOf cs [] ≡ true
+-- No byte is given twice, and none changes a cell, where there is none.
+pub fresh-nil : (cs : List ℕ) → freshOf cs [] ≡ true
 fresh-nil [] = refl
 fresh-nil (c ∷ cs) = refl
 
+-- Past the bytes nothing is left to test.
 pub fresh-done : (cs bs : List ℕ) (i : ℕ) → length bs ≤ i → freshOf (drop i cs) (drop i bs) ≡ true
 fresh-done cs bs i h = rw (drop-of-length-le bs h, fresh-nil)
 
@@ -51,9 +66,16 @@ give-turn cs bs i v p q e =
       e,
     )
 
-give-nil : (cs : List ℕ) → giveOf cs [] ≡ cs
+pub give-nil : (cs : List ℕ) → giveOf cs [] ≡ cs
 give-nil [] = refl
 give-nil (c ∷ cs) = refl
+
+-- Bytes given to as many cells stand before the cells after these.
+pub give-front : (cs rest bs : List ℕ) → length cs ≡ length bs → giveOf (cs ++ rest) bs ≡ bs ++ rest
+give-front [] rest [] e = give-nil rest
+give-front [] rest (b ∷ bs) e = absurd (omega arith)
+give-front (c ∷ cs) rest [] e = absurd (omega arith)
+give-front (c ∷ cs) rest (b ∷ bs) e = ap (λ (l : List ℕ). b ∷ l) (give-front cs rest bs (omega arith))
 
 pub give-done : (cs bs whole : List ℕ) (i : ℕ) → length bs ≤ i
     → take i cs ++ giveOf (drop i cs) (drop i bs) ≡ whole → cs ≡ whole
@@ -78,3 +100,10 @@ blank-turn bs i h = rw (drop-cons bs i 0 h)
 
 pub blank-done : (bs : List ℕ) (i : ℕ) → length bs ≤ i → blankOf (drop i bs) ≡ true
 blank-done bs i h = rw (drop-of-length-le bs h)
+
+-- Blank bytes are as many times FFh.
+pub blank-same : (bs : List ℕ) → blankOf bs ≡ true → bs ≡ replicate (length bs) blankByte
+blank-same [] e = refl
+blank-same (b ∷ bs) e =
+    let t = both-split (eqb b blankByte) (blankOf bs) e in
+    rw (eqb-true b blankByte (t .0)) (ap (λ (l : List ℕ). blankByte ∷ l) (blank-same bs (t .1)))

@@ -1,3 +1,4 @@
 pub mod CellLaws
+pub mod DigitLaws
 pub mod LineLaws
 pub mod PairLaws

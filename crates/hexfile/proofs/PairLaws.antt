@@ -1,6 +1,6 @@
 -- Laws of the pairs of digits and of the sums that the proofs cite. Assumes nothing.
 use Prim.Native.Nat.{ℕ, zero, suc, _+_, _*_, _/_, _%_, _<_, _≤_}
-use mathlib.Core.Bool.{Bool, true, false}
+use mathlib.Core.Bool.{true, false, true≢false}
 use mathlib.Core.List.{List, [], _∷_, _++_, append-assoc, append-nil}
 use mathlib.Core.Path.{_≡_, refl, sym, _∙_}
 use native.Mathlib.Omega.{arith}
@@ -10,9 +10,12 @@ use lib.ListN.{length, getD, take, drop, set}
 use lib.Seq.{drop-cons, take-suc-set, length-take-le, sets}
 use borrow.Author.Tests.{lt-ltb, ltb-true}
 use Rattle.part.specs.Cases.{both}
-use Rattle.hexfile.specs.Digits.{digitOf, isDigit, glyphOf}
+use Rattle.part.specs.Numbers.{byteValues}
+use Rattle.hexfile.specs.Digits.{base, digitOf, isDigit, glyphOf}
 use Rattle.hexfile.specs.Pairs.{pairOf, paired, pairsOf, textOf, sumOf}
 use Rattle.hexfile.specs.Promises.{Decodes}
+use Rattle.hexfile.proofs.DigitLaws.{glyph-written, glyph-digit}
+use Rattle.part.proofs.Laws.{both-split}
 
 -- The byte of two digits is one.
 pub pair-fits : (a b : ℕ) → isDigit a ≡ true → isDigit b ≡ true → pairOf a b < 256
@@ -23,17 +26,43 @@ pub length-textOf : (bs : List ℕ) → length (textOf bs) ≡ 2 * length bs
 length-textOf [] = refl
 length-textOf (b ∷ bs) = omega (arith, length-textOf bs)
 
--- What follows a pair is pairs too.
-rest-paired : (p q : Bool) → both p q ≡ true → q ≡ true
-rest-paired true q h = h
-rest-paired false true h = refl
-rest-paired false false h = h
+-- Both characters of a first pair are digits, and what follows it is pairs too.
+pub pair-split : (a b : ℕ) (cs : List ℕ) → paired (a ∷ b ∷ cs) ≡ true
+    → (isDigit a ≡ true) × (isDigit b ≡ true) × (paired cs ≡ true)
+pair-split a b cs e =
+    let t = both-split (both (isDigit a) (isDigit b)) (paired cs) e in
+    let d = both-split (isDigit a) (isDigit b) (t .0) in
+    (d .0, d .1, t .1)
 
 -- Two characters are read as a byte.
 pub length-pairsOf : (cs : List ℕ) → paired cs ≡ true → 2 * length (pairsOf cs) ≡ length cs
 length-pairsOf [] h = refl
 length-pairsOf (a ∷ []) h = let z : _≡_ {A = ℕ} 0 1 = cc in omega arith
-length-pairsOf (a ∷ b ∷ cs) h = omega (arith, length-pairsOf cs (rest-paired (both (isDigit a) (isDigit b)) (paired cs) h))
+length-pairsOf (a ∷ b ∷ cs) h = omega (arith, length-pairsOf cs (pair-split a b cs h .2))
+
+-- A byte's two characters read as the byte.
+pub pair-byte : (b : ℕ) → b < byteValues → pairOf (glyphOf (b / base)) (glyphOf (b % base)) ≡ b
+pair-byte b h =
+    omega (arith, glyph-written (b / base) (omega arith) .value, glyph-written (b % base) (omega arith) .value)
+
+-- The byte of two digits is written as these.
+pair-glyphs : (a b x y : ℕ) → x < base → y < base → glyphOf x ≡ a → glyphOf y ≡ b
+    → (glyphOf ((x * base + y) / base) ≡ a) × (glyphOf ((x * base + y) % base) ≡ b)
+pair-glyphs a b x y h k p q =
+    let high : (x * base + y) / base ≡ x = omega arith in
+    let low : (x * base + y) % base ≡ y = omega arith in
+    (rw high p, rw low q)
+
+-- Pairs of digits read as bytes and written again are the text that was read.
+pub text-pairs : (cs : List ℕ) → paired cs ≡ true → textOf (pairsOf cs) ≡ cs
+text-pairs [] e = refl
+text-pairs (a ∷ []) e = absurd (true≢false (cc))
+text-pairs (a ∷ b ∷ cs) e =
+    let d = pair-split a b cs e in
+    let x = ltb-true (digitOf a) base (d .0) in
+    let y = ltb-true (digitOf b) base (d .1) in
+    let t = pair-glyphs a b (digitOf a) (digitOf b) x y (glyph-digit a (d .0)) (glyph-digit b (d .1)) in
+    rw (t .0, t .1, text-pairs cs (d .2))
 
 -- Two characters from an index on, and what follows them.
 two : (cs : List ℕ) (at : ℕ) → at + 2 ≤ length cs

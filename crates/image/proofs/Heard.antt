@@ -12,23 +12,14 @@ use Rattle.part.specs.Cases.{both}
 use Rattle.hexfile.specs.Digits.{isDigit}
 use Rattle.hexfile.specs.Pairs.{paired, pairsOf, sumOf}
 use Rattle.hexfile.specs.Promises.{Decodes}
+use Rattle.part.proofs.Laws.{both-split}
 use Rattle.hexfile.proofs.PairLaws.{pair-fits, length-pairsOf}
+use Rattle.hexfile.proofs.CellLaws.{fresh-nil}
 use Rattle.image.specs.Form.{bytesOf, countOf, addressOf, typeOf, dataOf, wellFormed, typed, inside}
 use Rattle.image.specs.Reading.{fresh, givenOf, recordSays, saysOf}
 use Rattle.image.specs.Parts.{Forms, Places, Judges, Hears}
 use Rattle.image.specs.declared.records.Says.{Says}
 use Rattle.image.specs.declared.records.Says.the-variants.{Ends, Faulty}
-use Rattle.image.proofs.Placed.{fresh-none}
-
--- Both tests hold where their conjunction does.
-both-left : (p q : Bool) → both p q ≡ true → p ≡ true
-both-left true q h = refl
-both-left false q h = h
-
-both-right : (p q : Bool) → both p q ≡ true → q ≡ true
-both-right true q h = h
-both-right false true h = refl
-both-right false false h = h
 
 -- A conjunction with a test that fails fails.
 both-fails : (p : Bool) → both p false ≡ false
@@ -55,8 +46,8 @@ unfolding recordSays typed inside fresh
 judge-end bs cells s e h t y =
     let k : sumOf bs % 256 ≡ 0 = omega arith in
     let b : both (eqb (countOf bs) 0) (eqb (addressOf bs) 0) ≡ true = rw y at t in
-    let n : countOf bs ≡ 0 = eqb-true (countOf bs) 0 (both-left _ _ b) in
-    record { said = rw (eq-eqb (sumOf bs % 256) 0 k, y, b, n, fresh-none (drop (addressOf bs) cells)); kept = refl }
+    let n : countOf bs ≡ 0 = eqb-true (countOf bs) 0 (both-split (eqb (countOf bs) 0) (eqb (addressOf bs) 0) b .0) in
+    record { said = rw (eq-eqb (sumOf bs % 256) 0 k, y, b, n, fresh-nil (drop (addressOf bs) cells)); kept = refl }
 
 -- The bytes of a data record say what its data do at its address.
 pub judge-placed : (bs cells cells′ : List ℕ) (r : Says) (s : ℕ) → s ≡ (0 + sumOf bs) % 256 → s ≡ 0 → typed bs ≡ true
@@ -75,8 +66,8 @@ count-fits : (cs : List ℕ) → paired cs ≡ true → getD (pairsOf cs) 0 0 < 
 count-fits [] h = omega arith
 count-fits (a ∷ []) h = let z : _≡_ {A = ℕ} 0 1 = cc in absurd (omega arith)
 count-fits (a ∷ b ∷ cs) h =
-    let d : both (isDigit a) (isDigit b) ≡ true = both-left (both (isDigit a) (isDigit b)) (paired cs) h in
-    pair-fits a b (both-left (isDigit a) (isDigit b) d) (both-right (isDigit a) (isDigit b) d)
+    let d = both-split (isDigit a) (isDigit b) (both-split (both (isDigit a) (isDigit b)) (paired cs) h .0) in
+    pair-fits a b (d .0) (d .1)
 
 -- A conjunction fails where the second test does, given the first.
 both-unless : (p q : Bool) → (p ≡ true → q ≡ false) → both p q ≡ false
@@ -137,12 +128,11 @@ formed-count : (line : List ℕ) → wellFormed line ≡ true
 unfolding wellFormed
 formed-count line h =
     let sized : Bool = eqb (length line) (11 + 2 * countOf (bytesOf line)) in
-    let q : both (paired (drop 1 line)) sized ≡ true =
-    both-right (eqb (getD line 0 0) 0x3A) (both (paired (drop 1 line)) sized) h in
-    let p : paired (drop 1 line) ≡ true = both-left (paired (drop 1 line)) sized q in
+    let q = both-split (eqb (getD line 0 0) 0x3A) (both (paired (drop 1 line)) sized) h in
+    let t = both-split (paired (drop 1 line)) sized (q .1) in
     let e : length line ≡ 11 + 2 * countOf (bytesOf line) =
-    eqb-true (length line) (11 + 2 * countOf (bytesOf line)) (both-right (paired (drop 1 line)) sized q) in
-    let m : length (bytesOf line) ≡ length line / 2 = bytes-half line (omega arith) p in
+    eqb-true (length line) (11 + 2 * countOf (bytesOf line)) (t .1) in
+    let m : length (bytesOf line) ≡ length line / 2 = bytes-half line (omega arith) (t .0) in
     (m, omega arith)
 
 -- So they fit the room that holds them.

@@ -125,7 +125,7 @@ pub rows-done : (array out out₀ : List ℕ) (at from left : ℕ) {out′ : Lis
 rows-done array out out₀ at from left z e f g = record { said = e ∙ (rw z at f); next = rw z at g }
 
 -- The lines of so many rows have 44 characters for each that is written, and 12.
-length-rows : (n address : ℕ) (bs : List ℕ) → n * 16 ≤ length bs
+pub length-rows : (n address : ℕ) (bs : List ℕ) → n * 16 ≤ length bs
     → length (rowsText n address bs) ≡ 44 * rowsWritten n bs + 12
 length-rows zero address bs h = length-record 0 1 []
 length-rows (suc n) address bs h =

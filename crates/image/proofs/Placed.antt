@@ -8,6 +8,7 @@ use lib.ListN.{length, take, drop, take-append-drop, length-drop}
 use lib.Seq.{take-all}
 use borrow.Author.Tests.{ne-eqb, le-leb, lt-leb}
 use Rattle.hexfile.specs.Cells.{freshOf, giveOf}
+use Rattle.hexfile.proofs.CellLaws.{fresh-nil, give-nil}
 use Rattle.image.specs.Parts.{Places}
 use Rattle.image.specs.declared.records.Says.the-variants.{Gives, Faulty}
 
@@ -20,20 +21,11 @@ pub fresh-tail : (a : ℕ) (cells bs : List ℕ) (r b : Bool)
     → r ≡ freshOf (take (length cells - a) (drop a cells)) bs → r ≡ b → freshOf (drop a cells) bs ≡ b
 fresh-tail a cells bs r b e f = sym (rw (tail-whole a cells) at e) ∙ f
 
--- No byte is given twice, and none changes a cell, where there is none.
-pub fresh-none : (cs : List ℕ) → freshOf cs [] ≡ true
-fresh-none [] = refl
-fresh-none (c ∷ cs) = refl
-
-give-none : (cs : List ℕ) → giveOf cs [] ≡ cs
-give-none [] = refl
-give-none (c ∷ cs) = refl
-
 -- No bytes at an address: nothing is refused, and nothing changes.
 pub place-none : (a : ℕ) (bs cells : List ℕ) → length bs ≡ 0 → Places a bs cells Gives cells
 place-none a [] cells h = record {
-  said = rw (fresh-none (drop a cells));
-  kept = rw (give-none (drop a cells)) (sym (take-append-drop a cells));
+  said = rw (fresh-nil (drop a cells));
+  kept = rw (give-nil (drop a cells)) (sym (take-append-drop a cells));
 }
 place-none a (b ∷ bs) cells h = absurd (omega arith)
 

@@ -1,15 +1,20 @@
--- Laws of the tables and of the page load that several proofs cite. Assumes nothing.
+-- Laws of the tables, of tests and of the page load that several proofs cite. Assumes nothing.
 use Prim.Native.Nat.{ℕ, zero, suc, _-_, _<_, _≤_}
-use mathlib.Core.Bool.{Bool, true, false}
+use mathlib.Core.Bool.{Bool, true, false, true≢false}
 use mathlib.Core.List.{List, [], _∷_, _++_, append-nil}
 use mathlib.Core.Path.{_≡_, refl, ap, sym, subst, _∙_}
 use native.Mathlib.Omega.{arith}
 use lib.ListN.{length, getD, take, drop, set, length-drop, take-append-drop, drop-of-length-le, List·getD-eq-default}
 use lib.Seq.{drop-cons, take-all}
-use Rattle.part.specs.Cases.{some}
+use Rattle.part.specs.Cases.{both, some}
 use Rattle.part.specs.Lock.{extentOf, extentTable, firstPages}
 use Rattle.part.specs.Page.{oneOf, layOf}
 use Rattle.part.specs.declared.kinds.Kind.{Kind}
+
+-- Two tests that both hold.
+pub both-split : (a b : Bool) → both a b ≡ true → (a ≡ true) × (b ≡ true)
+both-split true b e = (refl, e)
+both-split false b e = absurd (true≢false (cc))
 
 -- The codes 0 to 2 lock nothing.
 pub code-none : (k : Kind) (n : ℕ) → n < 3 → extentOf k n ≡ firstPages 0

@@ -1,0 +1,13 @@
+pub mod Tests
+pub mod Spelling
+pub mod Texts
+pub mod Records
+pub mod RecordsBack
+pub mod Cells
+pub mod Heeded
+pub mod Written
+pub mod RowsBack
+pub mod WrittenBack
+pub mod RoundTrip
+pub mod Operations
+pub mod ImageCases
