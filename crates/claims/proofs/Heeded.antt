@@ -8,34 +8,32 @@ use native.Mathlib.Omega.{arith}
 use lib.Dec.{eqb}
 use lib.ListN.{length}
 use borrow.Author.Tests.{leb-true, eqb-true}
-use Rattle.hexfile.specs.Pairs.{sound}
+use Rattle.hexfile.specs.Pairs.{sumsToZero}
 use Rattle.hexfile.specs.Cells.{settledOf}
 use Rattle.part.proofs.Laws.{both-split}
 use Rattle.image.specs.Form.{rowSize, dataType, endType, bytesOf, countOf, addressOf, typeOf}
 use Rattle.image.specs.Form.{wellFormed, typeBy, typed, inside}
-use Rattle.image.specs.Reading.{saysBy, recordSays, saysOf, fresh, Reading, taken, bad, lineBy}
-use Rattle.image.specs.declared.records.Says.{Says}
-use Rattle.image.specs.declared.records.Says.the-variants.{Gives, Ends, Faulty}
+use Rattle.image.specs.Reading.{Heard, gives, ends, faulty, saysBy, recordSays, saysOf, fresh, Reading, taken, bad, lineBy}
 
 -- The last line of a text that gives an array ends it, and the array is what the cells settle to.
-pub last-said : (s : Says) (place next k p : ℕ) (cells array : List ℕ)
-    → lineBy s place next cells [] (bad k p) ≡ taken array → (s ≡ Ends) × (array ≡ settledOf cells)
-last-said (Faulty x) place next k p cells array e = absurd (true≢false (cc))
-last-said Ends place next k p cells array e = (refl, cc)
-last-said Gives place next k p cells array e = absurd (true≢false (cc))
+pub last-said : (s : Heard) (place next k p : ℕ) (cells array : List ℕ)
+    → lineBy s place next cells [] (bad k p) ≡ taken array → (s ≡ ends) × (array ≡ settledOf cells)
+last-said (faulty x) place next k p cells array e = absurd (true≢false (cc))
+last-said ends place next k p cells array e = (refl, cc)
+last-said gives place next k p cells array e = absurd (true≢false (cc))
 
 -- A line before others gives data, and the lines after it give the array.
-pub line-said : (s : Says) (place next : ℕ) (cells l : List ℕ) (ls : List (List ℕ)) (rest : Reading) (array : List ℕ)
-    → lineBy s place next cells (l ∷ ls) rest ≡ taken array → (s ≡ Gives) × (rest ≡ taken array)
-line-said (Faulty x) place next cells l ls rest array e = absurd (true≢false (cc))
-line-said Ends place next cells l ls rest array e = absurd (true≢false (cc))
-line-said Gives place next cells l ls rest array e = (refl, e)
+pub line-said : (s : Heard) (place next : ℕ) (cells l : List ℕ) (ls : List (List ℕ)) (rest : Reading) (array : List ℕ)
+    → lineBy s place next cells (l ∷ ls) rest ≡ taken array → (s ≡ gives) × (rest ≡ taken array)
+line-said (faulty x) place next cells l ls rest array e = absurd (true≢false (cc))
+line-said ends place next cells l ls rest array e = absurd (true≢false (cc))
+line-said gives place next cells l ls rest array e = (refl, e)
 
 -- Whether a line is not refused.
-abbrev pub heeded : Says → Bool
-heeded (Faulty k) = false
-heeded Ends = true
-heeded Gives = true
+abbrev pub heeded : Heard → Bool
+heeded (faulty k) = false
+heeded ends = true
+heeded gives = true
 
 -- The tests that a line passes which is not refused: its form, its sum, its type and its place.
 pub record Passed (f s t i : Bool) : Type 0 where
@@ -54,14 +52,14 @@ passed true true true true r e h = record { form = refl; sum = refl; type = refl
 
 -- A line that is not refused, in an array of a size.
 abbrev pub Heeded : ℕ → List ℕ → Type 0
-Heeded size l = Passed (wellFormed l) (sound (bytesOf l)) (typed (bytesOf l)) (inside size (bytesOf l))
+Heeded size l = Passed (wellFormed l) (sumsToZero (bytesOf l)) (typed (bytesOf l)) (inside size (bytesOf l))
 
 -- A line that says something to cells is not refused in an array of their number.
 pub heeds : (cells l : List ℕ) → heeded (saysOf cells l) ≡ true → Heeded (length cells) l
 unfolding saysOf recordSays
 heeds cells l e =
     let bs : List ℕ = bytesOf l in
-    passed (wellFormed l) (sound bs) (typed bs) (inside (length cells) bs) (fresh cells bs) (eqb (typeOf bs) endType) e
+    passed (wellFormed l) (sumsToZero bs) (typed bs) (inside (length cells) bs) (fresh cells bs) (eqb (typeOf bs) endType) e
 
 -- Tests of a type that is taken and is not that of data: neither count nor address.
 bareBy : (a b c d : Bool) → typeBy a b c d ≡ true → a ≡ false → (c ≡ true) × (d ≡ true)

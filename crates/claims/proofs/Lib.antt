@@ -11,3 +11,4 @@ pub mod WrittenBack
 pub mod RoundTrip
 pub mod Operations
 pub mod ImageCases
+pub mod Tidied

@@ -15,8 +15,8 @@ use Rattle.refusals.specs.declared.Reply.{Reply}
 use Rattle.image.specs.Form.{imageSize}
 use Rattle.image.specs.Reading.{taken}
 use Rattle.image.specs.Writing.{imageText, lengthOf, mostLength}
-use Rattle.image.specs.Promises.{imageOf, ReadsImage, writeBy, writtenOf, WritesImage}
-use Rattle.claims.specs.RoundTrip.{allBytes, Rows}
+use Rattle.image.specs.Promises.{imageOf, ReadsImage, writeBy, writeVerdict, WritesImage}
+use Rattle.claims.specs.RoundTrip.{allBytes, Rows, ReadBack}
 use Rattle.image.proofs.Laid.{length-image}
 use Rattle.claims.proofs.RoundTrip.{reads-back, rows-in-image}
 
@@ -32,16 +32,16 @@ write-says true false long n e = absurd (true≢false (cc))
 write-says false room long n e = absurd (true≢false (cc))
 
 -- So says the writer's verdict.
-written-says : (array out : List ℕ) (n : ℕ) → writtenOf array out ≡ accepted n
+written-says : (array out : List ℕ) (n : ℕ) → writeVerdict array out ≡ accepted n
     → Said (eqb (length array) imageSize) (lengthOf array) n
-unfolding writtenOf
+unfolding writeVerdict
 written-says array out n e =
     write-says (eqb (length array) imageSize) (leb (mostLength (length array)) (length out)) (lengthOf array) n e
 
 module _ (array out out′ : List ℕ) (r : Reply) (n : ℕ)
     (w : WritesImage array out r out′) (e : meant r ≡ accepted n) where
   -- The verdict of the writer is that acceptance.
-  said : writtenOf array out ≡ accepted n
+  said : writeVerdict array out ≡ accepted n
   said = sym (w .reply) ∙ e
 
   -- An accepted array has an image's size.
@@ -65,11 +65,6 @@ unfolding imageOf
 image-gives array old s b o =
     let r : Rows 256 array = record { size = s ∙ rows-in-image; bytes = b } in
     rw (eq-eqb (length old) imageSize o, o, rows-in-image) (reads-back 256 array r (omega arith))
-
--- The array is the same, and the reader answers the length.
-pub record ReadBack (array array′ : List ℕ) (r : Reply) (n : ℕ) : Type 0 where
-  pub same : array′ ≡ array
-  pub reply : meant r ≡ accepted n
 
 -- Written and read back: bytes that a write accepted are what a read of the text leaves.
 pub write-then-read : (array out out′ old array′ : List ℕ) (r r₂ : Reply) (n : ℕ) → allBytes array ≡ true

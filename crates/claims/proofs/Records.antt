@@ -13,15 +13,14 @@ use Rattle.part.specs.Cases.{either}
 use Rattle.part.specs.Numbers.{byteValues}
 use Rattle.hexfile.specs.Digits.{digitOf, glyphOf}
 use Rattle.hexfile.specs.Lines.{lineFeed, linesOf, trimmed}
-use Rattle.hexfile.specs.Pairs.{textOf, sound, checkOf}
+use Rattle.hexfile.specs.Pairs.{textOf, sumsToZero, checkOf}
 use Rattle.hexfile.specs.Cells.{freshOf}
 use Rattle.hexfile.proofs.LineLaws.{line-ends}
 use Rattle.hexfile.proofs.PairLaws.{length-textOf}
 use Rattle.image.specs.Form.{colon, dataType, endType, charactersIn, bytesOf, countOf, addressOf, typeOf, dataOf}
 use Rattle.image.specs.Form.{wellFormed, typed, inside}
-use Rattle.image.specs.Reading.{fresh, recordSays, saysOf}
+use Rattle.image.specs.Reading.{gives, ends, fresh, recordSays, saysOf}
 use Rattle.image.specs.Writing.{fieldsOf, recordText}
-use Rattle.image.specs.declared.records.Says.the-variants.{Gives, Ends}
 use Rattle.claims.specs.RoundTrip.{allBytes, noReturn, endsInFeed}
 use Rattle.claims.proofs.Tests.{bytes-append, returns-append}
 use Rattle.claims.proofs.Spelling.{pairs-text, paired-text, text-plain, text-returns, checked, check-sound}
@@ -58,8 +57,8 @@ either-true true = refl
 either-true false = refl
 
 -- Sound bytes of a data record that lie in the cells, where none is given, are given.
-bytes-give : (cells bs : List ℕ) → sound bs ≡ true → typeOf bs ≡ dataType → addressOf bs + countOf bs ≤ length cells
-    → fresh cells bs ≡ true → recordSays cells true bs ≡ Gives
+bytes-give : (cells bs : List ℕ) → sumsToZero bs ≡ true → typeOf bs ≡ dataType → addressOf bs + countOf bs ≤ length cells
+    → fresh cells bs ≡ true → recordSays cells true bs ≡ gives
 unfolding recordSays typed inside
 bytes-give cells bs s t h f = rw (s, t, le-leb (addressOf bs + countOf bs) (length cells) h, either-true, f)
 
@@ -127,7 +126,7 @@ module _ (a t : ℕ) (d : List ℕ) (w : Writable a t d) where
 
 -- A data record gives its bytes where they lie in the cells and none of them is given.
 pub record-gives : (a : ℕ) (d cells : List ℕ) → Writable a dataType d → a + length d ≤ length cells
-    → freshOf (drop a cells) d ≡ true → saysOf cells (lineOf (recordBytes a dataType d)) ≡ Gives
+    → freshOf (drop a cells) d ≡ true → saysOf cells (lineOf (recordBytes a dataType d)) ≡ gives
 unfolding saysOf fresh
 record-gives a d cells w h f =
     let q = record-fields a dataType d in
@@ -150,7 +149,7 @@ unfolding recordText glyphOf
 end-feed = refl
 
 -- It ends the image, whatever is given so far.
-pub record-ends : (cells : List ℕ) → saysOf cells (lineOf (recordBytes 0 endType [])) ≡ Ends
+pub record-ends : (cells : List ℕ) → saysOf cells (lineOf (recordBytes 0 endType [])) ≡ ends
 unfolding saysOf recordSays typed inside fresh wellFormed bytesOf digitOf glyphOf
 record-ends [] = refl
 record-ends (c ∷ cells) = refl

@@ -12,7 +12,7 @@ use borrow.Author.Tests.{eqb-true}
 use Rattle.part.specs.Cases.{both}
 use Rattle.part.specs.Numbers.{byteValues}
 use Rattle.hexfile.specs.Lines.{lineFeed}
-use Rattle.hexfile.specs.Pairs.{paired, pairsOf, textOf, sound}
+use Rattle.hexfile.specs.Pairs.{paired, pairsOf, textOf, sumsToZero}
 use Rattle.part.proofs.Laws.{both-split}
 use Rattle.hexfile.proofs.PairLaws.{length-pairsOf, text-pairs}
 use Rattle.image.specs.Form.{colon, charactersIn, bytesOf, countOf, addressOf, typeOf, dataOf, wellFormed}
@@ -29,7 +29,7 @@ last-split bs n e =
 
 -- Bytes in the order of a record are the fields that they state, and their checksum.
 fields-made : (c high low type k : ℕ) (d : List ℕ) → length d ≡ c → low < byteValues → k < byteValues
-    → sound (c ∷ high ∷ low ∷ type ∷ d ++ (k ∷ [])) ≡ true
+    → sumsToZero (c ∷ high ∷ low ∷ type ∷ d ++ (k ∷ [])) ≡ true
     → c ∷ high ∷ low ∷ type ∷ d ++ (k ∷ []) ≡ recordBytes (high * byteValues + low) type d
 fields-made c high low type k d n h g e =
     let p : (high * byteValues + low) / byteValues ≡ high = omega arith in
@@ -39,7 +39,7 @@ fields-made c high low type k d n h g e =
     ap (λ (x : ℕ). bs ++ (x ∷ [])) (check-last bs k g e) ∙ ap checked (sym s)
 
 -- A record's bytes, as many as its count says, are the fields that they state, and their checksum.
-fields-back : (bs : List ℕ) → allBytes bs ≡ true → length bs ≡ 5 + countOf bs → sound bs ≡ true
+fields-back : (bs : List ℕ) → allBytes bs ≡ true → length bs ≡ 5 + countOf bs → sumsToZero bs ≡ true
     → bs ≡ recordBytes (addressOf bs) (typeOf bs) (dataOf bs)
 fields-back [] a n e = absurd (omega arith)
 fields-back (c ∷ []) a n e = absurd (omega arith)
@@ -49,8 +49,8 @@ fields-back (c ∷ high ∷ low ∷ type ∷ rest) a n e =
     let bs : List ℕ = c ∷ high ∷ low ∷ type ∷ rest in
     let k : ℕ = getD rest c 0 in
     let s : rest ≡ take c rest ++ (k ∷ []) = last-split rest c (omega arith) in
-    let f : sound (c ∷ high ∷ low ∷ type ∷ take c rest ++ (k ∷ [])) ≡ true =
-    subst (λ (r : List ℕ). sound (c ∷ high ∷ low ∷ type ∷ r) ≡ true) s e in
+    let f : sumsToZero (c ∷ high ∷ low ∷ type ∷ take c rest ++ (k ∷ [])) ≡ true =
+    subst (λ (r : List ℕ). sumsToZero (c ∷ high ∷ low ∷ type ∷ r) ≡ true) s e in
     let d : length (take c rest) ≡ c = length-take-le c rest (omega arith) in
     ap (λ (r : List ℕ). c ∷ high ∷ low ∷ type ∷ r) s
     ∙ fields-made c high low type k (take c rest) d (bytes-at bs 2 a) (bytes-at rest c (bytes-parts 4 bs a .1)) f
@@ -87,7 +87,7 @@ data-bytes l e =
     bytes-parts (countOf (bytesOf l)) (drop 4 (bytesOf l)) (bytes-parts 4 (bytesOf l) a .1) .0
 
 -- A sound line, with its line feed, is the record that the writer makes of what the line states.
-pub line-back : (l : List ℕ) → wellFormed l ≡ true → sound (bytesOf l) ≡ true
+pub line-back : (l : List ℕ) → wellFormed l ≡ true → sumsToZero (bytesOf l) ≡ true
     → l ++ (lineFeed ∷ []) ≡ recordText (addressOf (bytesOf l)) (typeOf (bytesOf l)) (dataOf (bytesOf l))
 unfolding bytesOf recordText
 line-back l e s =

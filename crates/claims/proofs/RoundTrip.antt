@@ -5,17 +5,16 @@
 -- what the writer makes of the array that was read. So the writer's texts are exactly those that are accepted and in
 -- the fixed form.
 --
--- An image of 4,096 bytes has 256 rows. Each row's line has 44 characters and the end line 12, so that no text of the
--- writer is longer than 11,276. Assumes nothing.
+-- An image of 4,096 bytes has 256 rows, and so lies well within. No axiom is used.
 use Prim.Native.Nat.{ℕ, _+_, _*_, _≤_}
 use mathlib.Core.Bool.{true}
 use mathlib.Core.List.{List}
 use mathlib.Core.Path.{_≡_, refl, subst}
 use native.Mathlib.Omega.{arith}
 use Rattle.part.specs.Kind.{kindOf}
-use Rattle.image.specs.Form.{mostText, rowSize, imageSize}
-use Rattle.image.specs.Writing.{imageText, rowLength, endLength, mostLength}
-use Rattle.claims.specs.RoundTrip.{Rows, fixedForm, Takes, Writers, Fixed, RoundTrip}
+use Rattle.image.specs.Form.{imageSize, rowSize, mostText}
+use Rattle.image.specs.Writing.{imageText, rowLength, endLength}
+use Rattle.claims.specs.RoundTrip.{Rows, fixedForm, imageRows, Takes, Writers, Fixed, RoundTrip}
 use Rattle.claims.proofs.Written.{image-read, image-fixed}
 use Rattle.claims.proofs.WrittenBack.{image-back, takes-rows}
 
@@ -60,29 +59,12 @@ round-trip n h =
       exactly = λ text. exactly n text h;
     }
 
--- A row's line has 44 characters, its line feed included.
-pub row-length : rowLength ≡ 44
-row-length = refl
-
--- The end line has 12.
-pub end-length : endLength ≡ 12
-end-length = refl
-
--- An image has 4,096 bytes.
-pub image-size : imageSize ≡ 4096
-unfolding kindOf
-image-size = refl
-
--- They are 256 rows.
+-- An image has 256 rows.
 pub rows-in-image : imageSize ≡ 256 * rowSize
 unfolding kindOf
 rows-in-image = refl
 
--- Its longest text has 11,276 characters.
-pub image-most : mostLength imageSize ≡ 11276
+-- The claim for an image of 4,096 bytes.
+pub image-round-trip : RoundTrip imageRows
 unfolding kindOf
-image-most = refl
-
--- The claim for an image.
-pub image-round-trip : RoundTrip 256
 image-round-trip = round-trip 256 (omega arith)

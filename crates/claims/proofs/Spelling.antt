@@ -9,7 +9,7 @@ use borrow.Author.Tests.{lt-ltb, eqb-true, eq-eqb, ne-eqb}
 use Rattle.part.specs.Numbers.{byteValues}
 use Rattle.hexfile.specs.Digits.{base, glyphOf}
 use Rattle.hexfile.specs.Lines.{carriageReturn}
-use Rattle.hexfile.specs.Pairs.{pairOf, paired, pairsOf, textOf, sumOf, sound, checkOf}
+use Rattle.hexfile.specs.Pairs.{pairOf, paired, pairsOf, textOf, sumOf, sumsToZero, checkOf}
 use Rattle.hexfile.proofs.DigitLaws.{Written, glyph-written}
 use Rattle.hexfile.proofs.LineLaws.{Plain}
 use Rattle.hexfile.proofs.PairLaws.{pair-fits, pair-split, pair-byte}
@@ -82,11 +82,11 @@ abbrev pub checked : List ℕ → List ℕ
 checked bs = bs ++ (checkOf bs ∷ [])
 
 -- They are sound.
-pub check-sound : (bs : List ℕ) → sound (checked bs) ≡ true
+pub check-sound : (bs : List ℕ) → sumsToZero (checked bs) ≡ true
 check-sound bs = rw sum-append (eq-eqb ((sumOf bs + (checkOf bs + 0)) % byteValues) 0 (omega arith))
 
 -- The last of sound bytes is the checksum of those before it.
-pub check-last : (bs : List ℕ) (k : ℕ) → k < byteValues → sound (bs ++ (k ∷ [])) ≡ true → k ≡ checkOf bs
+pub check-last : (bs : List ℕ) (k : ℕ) → k < byteValues → sumsToZero (bs ++ (k ∷ [])) ≡ true → k ≡ checkOf bs
 check-last bs k h e =
     let s = eqb-true (sumOf (bs ++ (k ∷ [])) % byteValues) 0 e in
     omega (arith, sum-append bs (k ∷ []))

@@ -8,25 +8,28 @@ use lib.ListN.{replicate, set}
 use Rattle.image.specs.Form.{imageSize}
 use Rattle.image.specs.Reading.{taken, bad, readingOf}
 use Rattle.image.specs.Writing.{imageText}
+use Rattle.tidying.specs.Shown.{shownOf}
 
--- The characters of a text as numbers.
+-- The characters of a text as numbers (Image files, the text shown).
 abbrev pub codesOf : String → List ℕ
 codesOf ended = []
 codesOf (c before s) = code c ∷ codesOf s
 
 -- The image that the paper shows: all FFh but 4Ch at 0010h (Image files, all FFh but).
-abbrev pub shownArray : List ℕ
-shownArray = set (replicate imageSize 0xFF) 0x0010 0x4C
+abbrev pub paperArray : List ℕ
+paperArray = set (replicate imageSize 0xFF) 0x0010 0x4C
 
 -- Its fixed form, whole (Image files, all FFh but).
-abbrev pub shownText : List ℕ
-shownText = codesOf ":100010004CFFFFFFFFFFFFFFFFFFFFFFFFFFFFFFA3\n:00000001FF\n"
+abbrev pub paperText : List ℕ
+paperText = codesOf ":100010004CFFFFFFFFFFFFFFFFFFFFFFFFFFFFFFA3\n:00000001FF\n"
 
--- The image above is written as that text, and that text gives it (Bench cases, P10).
+-- The image above is written as that text, that text gives it, and the program leaves the text as it is (Bench cases, P10).
 pub record P10 : Type 0 where
-  pub written : imageText shownArray ≡ shownText
-  pub read : readingOf imageSize shownText ≡ taken shownArray
+  pub written : imageText paperArray ≡ paperText
+  pub read : readingOf imageSize paperText ≡ taken paperArray
+  pub tidied : shownOf paperText ≡ paperText
 
--- An empty text is 17 at 0 (Bench cases, P11).
-abbrev pub P11 : Type 0
-P11 = readingOf imageSize [] ≡ bad 17 0
+-- An empty text is 17 at 0, and that is the line that the program writes (Bench cases, P11).
+pub record P11 : Type 0 where
+  pub read : readingOf imageSize [] ≡ bad 17 0
+  pub tidied : shownOf [] ≡ codesOf "17 0\n"

@@ -1,24 +1,27 @@
--- Written and read back: what the claim says of texts and arrays (document 01, Image files; demand 2).
-use Prim.Native.Nat.{ℕ, _+_, _*_, _-_, _%_}
+-- Written and read back: what the claim says of texts and arrays (document 01, Image files; the demand that a written image reads back).
+use Prim.Native.Nat.{ℕ, _+_, _*_, _-_, _/_, _%_, _≤_}
 use mathlib.Core.Bool.{Bool, true, false, not}
 use mathlib.Core.List.{List, [], _∷_}
 use mathlib.Core.Path.{_≡_}
 use lib.Dec.{eqb, leb, ltb}
-use lib.ListN.{length, getD}
+use lib.ListN.{length, getD, take}
 use Rattle.part.specs.Cases.{both}
 use Rattle.part.specs.Numbers.{byteValues}
+use Rattle.refusals.specs.Refusals.{accepted, meant}
+use Rattle.refusals.specs.declared.Reply.{Reply}
 use Rattle.hexfile.specs.Lines.{lineFeed, carriageReturn, linesOf}
 use Rattle.hexfile.specs.Cells.{blankOf}
-use Rattle.image.specs.Form.{rowSize, endType, bytesOf, countOf, addressOf, typeOf, dataOf}
+use Rattle.image.specs.Form.{imageSize, mostText, rowSize, dataType, endType, bytesOf, countOf, addressOf, typeOf, dataOf}
 use Rattle.image.specs.Reading.{taken, readingOf}
-use Rattle.image.specs.Writing.{imageText}
+use Rattle.image.specs.Writing.{recordText, imageText, lengthOf}
+use Rattle.tidying.specs.Shown.{shownOf}
 
--- Whether a test holds of every number of a list.
+-- Whether a test holds of every number of a list: a word for the definitions below.
 abbrev pub all : (ℕ → Bool) → List ℕ → Bool
 all t [] = true
 all t (x ∷ xs) = both (t x) (all t xs)
 
--- Whether every number of a list is a byte.
+-- Whether every number of a list is a byte (The part on our bench, the array).
 abbrev pub allBytes : List ℕ → Bool
 allBytes bs = all (λ b. ltb b byteValues) bs
 
@@ -49,13 +52,17 @@ fixedLines from [] = false
 fixedLines from (l ∷ []) = eqb (typeOf (bytesOf l)) endType
 fixedLines from (l ∷ m ∷ ls) = both (rowRecord from (bytesOf l)) (fixedLines (addressOf (bytesOf l) + rowSize) (m ∷ ls))
 
--- The fixed form: line feeds only, row records ascending, then the end record (Image files, the writer).
+-- Of an accepted text: line feeds only, row records ascending, then the end record (Image files, the writer).
 unfoldable pub fixedForm : List ℕ → Bool
 fixedForm text = both (noReturn text) (both (endsInFeed text) (fixedLines 0 (linesOf text)))
 
 -- A text is accepted for an array of so many rows, and gives it (Refusal numbers, 11 to 18).
 abbrev pub Takes : ℕ → List ℕ → List ℕ → Type 0
 Takes n text array = readingOf (n * rowSize) text ≡ taken array
+
+-- How many rows an image has (Image files, the writer).
+abbrev pub imageRows : ℕ
+imageRows = imageSize / rowSize
 
 -- A text is the writer's for an array of so many rows (Image files, the writer).
 pub record Writers (n : ℕ) (text : List ℕ) : Type 0 where
@@ -74,3 +81,21 @@ pub record RoundTrip (n : ℕ) : Type 0 where
   pub reads-back : (array : List ℕ) → Rows n array → Takes n (imageText array) array
   pub writes-back : (text array : List ℕ) → Takes n text array → fixedForm text ≡ true → imageText array ≡ text
   pub exactly : (text : List ℕ) → (Writers n text → Fixed n text) × (Fixed n text → Writers n text)
+
+-- What a read leaves of an array that was written: the array is the same, and the text's length is answered (Image files).
+pub record ReadBack (array array′ : List ℕ) (r : Reply) (n : ℕ) : Type 0 where
+  pub same : array′ ≡ array
+  pub reply : meant r ≡ accepted n
+
+-- The lengths that are said: the length answered, 44 a row, 12 at the end, and at most 11,276 (Image files; Refusal numbers, 19).
+pub record Lengths : Type 0 where
+  pub answered : (array : List ℕ) → length (imageText array) ≡ lengthOf array
+  pub row : (address : ℕ) (row : List ℕ) → length row ≡ rowSize → length (recordText address dataType row) ≡ 44
+  pub end : length (recordText 0 endType []) ≡ 12
+  pub most : (array : List ℕ) → length array ≡ 4096 → length (imageText array) ≤ 11276
+
+-- The program: what stands past 65,537 bytes is not asked, a fixed form stays as it is, and so does what was written (Image files).
+pub record Tidied : Type 0 where
+  pub cut : (text : List ℕ) → shownOf text ≡ shownOf (take (mostText + 1) text)
+  pub keeps : (text array : List ℕ) → Takes imageRows text array → fixedForm text ≡ true → shownOf text ≡ text
+  pub again : (text array : List ℕ) → Takes imageRows text array → shownOf (shownOf text) ≡ shownOf text

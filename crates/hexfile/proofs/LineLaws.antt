@@ -8,52 +8,51 @@ use lib.Dec.{eqb}
 use lib.ListN.{length, getD, take, drop, length-drop, drop-of-length-le}
 use lib.Seq.{drop-cons, getD-take, getD-drop, length-take-le, take-length}
 use borrow.Author.Tests.{eq-eqb, ne-eqb}
-use Rattle.hexfile.specs.Lines.{lineFeed, carriageReturn, joinBy, linesOf, firstOf, trimBy, trimmed, stepOf}
-use Rattle.hexfile.specs.declared.lines.Line.the-variants.{At, End}
+use Rattle.hexfile.specs.Lines.{lineFeed, carriageReturn, joinBy, linesOf, firstLine, trimBy, trimmed, stepOf, lineAt, noLine}
 
 -- A character that ends no line stands at the start of the first line.
-first-join : (c : ℕ) (ls : List (List ℕ)) → firstOf (joinBy false c ls) ≡ c ∷ firstOf ls
+first-join : (c : ℕ) (ls : List (List ℕ)) → firstLine (joinBy false c ls) ≡ c ∷ firstLine ls
 first-join c [] = refl
 first-join c (l ∷ ls) = refl
 
 -- The first line stands at the start of the text.
-take-by : (b : Bool) (c : ℕ) (cs : List ℕ) (ls : List (List ℕ)) → firstOf ls ≡ take (length (firstOf ls)) cs
-    → firstOf (joinBy b c ls) ≡ take (length (firstOf (joinBy b c ls))) (c ∷ cs)
+take-by : (b : Bool) (c : ℕ) (cs : List ℕ) (ls : List (List ℕ)) → firstLine ls ≡ take (length (firstLine ls)) cs
+    → firstLine (joinBy b c ls) ≡ take (length (firstLine (joinBy b c ls))) (c ∷ cs)
 take-by true c cs ls h = refl
 take-by false c cs ls h = rw (first-join c ls) (ap (λ (l : List ℕ). c ∷ l) h)
 
-pub first-take : (xs : List ℕ) → firstOf (linesOf xs) ≡ take (length (firstOf (linesOf xs))) xs
+pub first-take : (xs : List ℕ) → firstLine (linesOf xs) ≡ take (length (firstLine (linesOf xs))) xs
 first-take [] = refl
 first-take (c ∷ cs) = take-by (eqb c lineFeed) c cs (linesOf cs) (first-take cs)
 
 -- So it is no longer than the text.
-length-by : (b : Bool) (c : ℕ) (ls : List (List ℕ)) (n : ℕ) → length (firstOf ls) ≤ n
-    → length (firstOf (joinBy b c ls)) ≤ suc n
+length-by : (b : Bool) (c : ℕ) (ls : List (List ℕ)) (n : ℕ) → length (firstLine ls) ≤ n
+    → length (firstLine (joinBy b c ls)) ≤ suc n
 length-by true c ls n h = omega arith
 length-by false c ls n h = rw (first-join c ls) (omega arith)
 
-pub first-length : (xs : List ℕ) → length (firstOf (linesOf xs)) ≤ length xs
+pub first-length : (xs : List ℕ) → length (firstLine (linesOf xs)) ≤ length xs
 first-length [] = omega arith
 first-length (c ∷ cs) = length-by (eqb c lineFeed) c (linesOf cs) (length cs) (first-length cs)
 
 -- A text's lines are its first line and the lines of what follows the first line's line feed.
 alone-by : (b : Bool) (c : ℕ)
-    → joinBy b c [] ≡ firstOf (joinBy b c []) ∷ linesOf (drop (suc (length (firstOf (joinBy b c [])))) (c ∷ []))
+    → joinBy b c [] ≡ firstLine (joinBy b c []) ∷ linesOf (drop (suc (length (firstLine (joinBy b c [])))) (c ∷ []))
 alone-by true c = refl
 alone-by false c = refl
 
 cons-by : (b : Bool) (c : ℕ) (cs l : List ℕ) → linesOf cs ≡ l ∷ linesOf (drop (suc (length l)) cs)
     → joinBy b c (linesOf cs)
-    ≡ firstOf (joinBy b c (linesOf cs)) ∷ linesOf (drop (suc (length (firstOf (joinBy b c (linesOf cs))))) (c ∷ cs))
+    ≡ firstLine (joinBy b c (linesOf cs)) ∷ linesOf (drop (suc (length (firstLine (joinBy b c (linesOf cs))))) (c ∷ cs))
 cons-by true c cs l e = refl
 cons-by false c cs l e = rw e
 
 pub lines-cons : (xs : List ℕ) → 0 < length xs
-    → linesOf xs ≡ firstOf (linesOf xs) ∷ linesOf (drop (suc (length (firstOf (linesOf xs)))) xs)
+    → linesOf xs ≡ firstLine (linesOf xs) ∷ linesOf (drop (suc (length (firstLine (linesOf xs)))) xs)
 lines-cons [] h = absurd (omega arith)
 lines-cons (c ∷ []) h = alone-by (eqb c lineFeed) c
 lines-cons (c ∷ d ∷ cs) h =
-    cons-by (eqb c lineFeed) c (d ∷ cs) (firstOf (linesOf (d ∷ cs))) (lines-cons (d ∷ cs) (omega arith))
+    cons-by (eqb c lineFeed) c (d ∷ cs) (firstLine (linesOf (d ∷ cs))) (lines-cons (d ∷ cs) (omega arith))
 
 -- No line is left exactly where no character is.
 pub lines-none : (xs : List ℕ) → length xs ≡ 0 → linesOf xs ≡ []
@@ -78,15 +77,15 @@ line-ends [] rest h = refl
 line-ends (c ∷ l) rest h = rw (ne-eqb c lineFeed (h .0), line-ends l rest (h .1))
 
 -- A line feed at an index ends the line there; any other character is the line's next.
-pub first-ends : (xs : List ℕ) (i : ℕ) → i < length xs → getD xs i 0 ≡ lineFeed → firstOf (linesOf (drop i xs)) ≡ []
+pub first-ends : (xs : List ℕ) (i : ℕ) → i < length xs → getD xs i 0 ≡ lineFeed → firstLine (linesOf (drop i xs)) ≡ []
 first-ends xs i h e = rw (drop-cons xs i 0 h, eq-eqb (getD xs i 0) lineFeed e)
 
 pub first-turn : (xs : List ℕ) (i : ℕ) → i < length xs → (getD xs i 0 ≡ lineFeed → ⊥)
-    → length (firstOf (linesOf (drop i xs))) ≡ suc (length (firstOf (linesOf (drop (suc i) xs))))
+    → length (firstLine (linesOf (drop i xs))) ≡ suc (length (firstLine (linesOf (drop (suc i) xs))))
 first-turn xs i h e =
     rw (drop-cons xs i 0 h, ne-eqb (getD xs i 0) lineFeed e, first-join (getD xs i 0) (linesOf (drop (suc i) xs)))
 
-pub first-none : (xs : List ℕ) (i : ℕ) → length xs ≤ i → firstOf (linesOf (drop i xs)) ≡ []
+pub first-none : (xs : List ℕ) (i : ℕ) → length xs ≤ i → firstLine (linesOf (drop i xs)) ≡ []
 first-none xs i h = rw (drop-of-length-le xs h)
 
 -- What is trimmed is the line, or all of it but its last character.
@@ -144,22 +143,22 @@ trim-empty text at feed e =
     rw (z, trim-none [] (λ x. omega arith)) (omega arith)
 
 -- The line that starts at an index ends within the text.
-pub line-fits : (text : List ℕ) (at : ℕ) → at ≤ length text → at + length (firstOf (linesOf (drop at text))) ≤ length text
+pub line-fits : (text : List ℕ) (at : ℕ) → at ≤ length text → at + length (firstLine (linesOf (drop at text))) ≤ length text
 line-fits text at h =
-    let k : length (firstOf (linesOf (drop at text))) ≤ length text - at = rw length-drop at (first-length (drop at text)) in
+    let k : length (firstLine (linesOf (drop at text))) ≤ length text - at = rw length-drop at (first-length (drop at text)) in
     omega arith
 
 -- The first line that is left, as the code finds it, is what the step says; or that none is left.
-pub step-line : (text : List ℕ) (at end trim : ℕ) → at < length text
-    → end ≡ at + length (firstOf (linesOf (drop at text)))
-    → trim ≡ at + length (trimmed (take (end - at) (drop at text)))
-    → At trim end ≡ stepOf at (linesOf (drop at text))
+pub step-line : (text : List ℕ) (at feed trim : ℕ) → at < length text
+    → feed ≡ at + length (firstLine (linesOf (drop at text)))
+    → trim ≡ at + length (trimmed (take (feed - at) (drop at text)))
+    → lineAt trim feed ≡ stepOf at (linesOf (drop at text))
 unfolding stepOf
-step-line text at end trim h e t =
-    let n : end - at ≡ length (firstOf (linesOf (drop at text))) = omega arith in
+step-line text at feed trim h e t =
+    let n : feed - at ≡ length (firstLine (linesOf (drop at text))) = omega arith in
     let f = rw (n, ← first-take (drop at text)) at t in
     rw (lines-cons (drop at text) (simp length-drop (omega arith)), f, e)
 
-pub step-end : (text : List ℕ) (at : ℕ) → length text ≤ at → End ≡ stepOf at (linesOf (drop at text))
+pub step-end : (text : List ℕ) (at : ℕ) → length text ≤ at → noLine ≡ stepOf at (linesOf (drop at text))
 unfolding stepOf
 step-end text at h = rw (drop-of-length-le text h)

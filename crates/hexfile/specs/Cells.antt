@@ -6,7 +6,7 @@ use lib.Dec.{eqb, ltb}
 use Rattle.part.specs.Cases.{both}
 use Rattle.part.specs.Numbers.{byteValues}
 
--- What a cell holds that is not given: more than any byte.
+-- What a cell holds that is not given: more than any byte (Image files, bytes not given).
 abbrev pub notGiven : ℕ
 notGiven = byteValues
 
@@ -20,7 +20,7 @@ freshOf [] bs = true
 freshOf (c ∷ cs) [] = true
 freshOf (c ∷ cs) (b ∷ bs) = both (eqb c notGiven) (freshOf cs bs)
 
--- The cells with the bytes given to the first of them.
+-- The cells with the bytes given to the first of them (Image files, address, data).
 abbrev pub giveOf : List ℕ → List ℕ → List ℕ
 giveOf [] bs = []
 giveOf (c ∷ cs) [] = c ∷ cs

@@ -4,32 +4,40 @@ use mathlib.Core.Bool.{Bool, true, false}
 use lib.Dec.{leb, ltb}
 use Rattle.part.specs.Cases.{both}
 
--- How many digits there are; as a digit's value it stands for no digit.
+-- How many digits there are; as a digit's value it stands for no digit (Image files, upper-case digits).
 abbrev pub base : ℕ
 base = 16
 
--- Whether a number lies between two others, both included.
+-- A figure's character is its value and 30h, a letter's its value and 37h (Image files, upper-case digits).
+abbrev pub figures : ℕ
+figures = 0x30
+
+-- The same of letters: A, with the value ten, is 41h (Image files, upper-case digits).
+abbrev pub letters : ℕ
+letters = 0x37
+
+-- Whether a character lies between two others, both included (Image files, upper-case digits).
 abbrev pub within : ℕ → ℕ → ℕ → Bool
 within low high c = both (leb low c) (leb c high)
 
--- 0 to 9 (30h to 39h) and A to F (41h to 46h) are digits, and no other character is one (Image files, upper-case digits).
+-- 0 to 9 and A to F are digits, and no other character is one (Image files, upper-case digits).
 abbrev pub digitBy : Bool → Bool → ℕ → ℕ
-digitBy true u c = c - 0x30
-digitBy false true c = c - 0x37
+digitBy true u c = c - figures
+digitBy false true c = c - letters
 digitBy false false c = base
 
 -- The value of a character as a digit (Image files, upper-case digits).
 unfoldable pub digitOf : ℕ → ℕ
-digitOf c = digitBy (within 0x30 0x39 c) (within 0x41 0x46 c) c
+digitOf c = digitBy (within figures (figures + 9) c) (within (letters + 10) (letters + 15) c) c
 
 -- Whether a character is a digit (Image files, upper-case digits).
 abbrev pub isDigit : ℕ → Bool
 isDigit c = ltb (digitOf c) base
 
--- Values below ten are written 0 to 9, those from ten on A to F (Image files, upper-case digits).
+-- Values below ten are written as figures, those from ten on as letters (Image files, upper-case digits).
 abbrev pub glyphBy : Bool → ℕ → ℕ
-glyphBy true d = d + 0x30
-glyphBy false d = d + 0x37
+glyphBy true d = d + figures
+glyphBy false d = d + letters
 
 -- The character of a digit's value (Image files, upper-case digits).
 unfoldable pub glyphOf : ℕ → ℕ

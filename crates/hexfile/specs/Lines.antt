@@ -26,21 +26,31 @@ abbrev pub linesOf : List ℕ → List (List ℕ)
 linesOf [] = []
 linesOf (c ∷ cs) = joinBy (eqb c lineFeed) c (linesOf cs)
 
--- The first of the lines, empty where there is none.
-abbrev pub firstOf : List (List ℕ) → List ℕ
-firstOf [] = []
-firstOf (l ∷ ls) = l
+-- The first of the lines, empty where there is none (Image files, a line runs to).
+abbrev pub firstLine : List (List ℕ) → List ℕ
+firstLine [] = []
+firstLine (l ∷ ls) = l
 
 -- A line that ends in a carriage return, and one that does not (Image files, one carriage return).
 abbrev pub trimBy : Bool → List ℕ → List ℕ
 trimBy true l = take (length l - 1) l
 trimBy false l = l
 
--- A line with one carriage return dropped before its end (Image files, one carriage return).
+-- A line with one carriage return dropped before its end, be that a line feed or the end of the text (Image files).
 unfoldable pub trimmed : List ℕ → List ℕ
 trimmed l = trimBy (eqb (getD l (length l - 1) 0) carriageReturn) l
 
--- What the line step says of the lines that are left: the first one's end without and with its carriage return, or the end.
-unfoldable pub stepOf : ℕ → List (List ℕ) → Line
-stepOf at [] = End
-stepOf at (l ∷ ls) = At (at + length (trimmed l)) (at + length l)
+-- A line step: a line, with where its characters end without and with its carriage return, or the end (Image files).
+pub data Step : Type 0 where
+  lineAt : ℕ → ℕ → Step
+  noLine : Step
+
+-- What each case of the code's answer says.
+abbrev pub stepMeant : Line → Step
+stepMeant (At t f) = lineAt t f
+stepMeant End = noLine
+
+-- The step at a place, given the lines that are left from there on (Image files, a line runs to).
+unfoldable pub stepOf : ℕ → List (List ℕ) → Step
+stepOf at [] = noLine
+stepOf at (l ∷ ls) = lineAt (at + length (trimmed l)) (at + length l)

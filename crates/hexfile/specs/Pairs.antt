@@ -28,14 +28,14 @@ abbrev pub textOf : List ℕ → List ℕ
 textOf [] = []
 textOf (b ∷ bs) = glyphOf (b / base) ∷ glyphOf (b % base) ∷ textOf bs
 
--- What bytes add up to.
+-- What bytes add up to (Image files, all bytes of a record).
 abbrev pub sumOf : List ℕ → ℕ
 sumOf [] = 0
 sumOf (b ∷ bs) = b + sumOf bs
 
--- Bytes whose last is their checksum sum to 0 modulo 256 (Image files, all bytes of a record).
-abbrev pub sound : List ℕ → Bool
-sound bs = eqb (sumOf bs % byteValues) 0
+-- Whether bytes, their checksum included, sum to 0 modulo 256 (Image files, all bytes of a record).
+abbrev pub sumsToZero : List ℕ → Bool
+sumsToZero bs = eqb (sumOf bs % byteValues) 0
 
 -- The byte that makes the sum 0 modulo 256 (Image files, all bytes of a record).
 abbrev pub checkOf : List ℕ → ℕ

@@ -1,4 +1,4 @@
--- What decoding promises: a named part for each thing that it leaves.
+-- What decoding promises, in named parts. The room is scratch: nothing is said of what it holds beside the bytes.
 use Prim.Native.Nat.{ℕ}
 use mathlib.Core.Bool.{Bool, true}
 use mathlib.Core.List.{List}
@@ -6,7 +6,7 @@ use mathlib.Core.Path.{_≡_}
 use lib.ListN.{length, take}
 use Rattle.hexfile.specs.Pairs.{paired, pairsOf}
 
--- Whether the text is pairs of digits, and if it is, their bytes at the start of the room.
+-- Whether the text is pairs of digits, and if it is, their bytes at the start of the room (Image files).
 pub record Decodes (text : List ℕ) (r : Bool) (room′ : List ℕ) : Type 0 where
   pub said : r ≡ paired text
   pub bytes : r ≡ true → take (length (pairsOf text)) room′ ≡ pairsOf text

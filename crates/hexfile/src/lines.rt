@@ -2,7 +2,7 @@
 ghost use mathlib.Core.Path.{_≡_};
 ghost use Prim.Native.Nat.{_+_, _-_, _≤_};
 ghost use lib.ListN.{length, take, drop};
-ghost use Rattle.hexfile.specs.Lines.{firstOf, linesOf, stepOf, trimmed};
+ghost use Rattle.hexfile.specs.Lines.{firstLine, linesOf, stepMeant, stepOf, trimmed};
 
 pub const LINE_FEED: u8 = 10;
 
@@ -17,7 +17,7 @@ pub enum Line {
 // Where the line that starts at `at` ends: at its line feed or at the end of the text.
 fn feed(text: &[u8], at: usize) -> usize
     requires { ⌜ at ≤ length (now text) ⌝ }
-    ensures { λ r. ⌜ r ≡ at + length (firstOf (linesOf (drop at (now (text .entry))))) ⌝ }
+    ensures { λ r. ⌜ r ≡ at + length (firstLine (linesOf (drop at (now (text .entry))))) ⌝ }
 {
     let mut i = at;
     while i < text.len() {
@@ -46,7 +46,7 @@ fn trim(text: &[u8], at: usize, feed: usize) -> usize
 
 // The line that starts at `at`, or the end.
 pub fn next_line(text: &[u8], at: usize) -> Line
-    ensures { λ r. ⌜ r ≡ stepOf at (linesOf (drop at (now (text .entry)))) ⌝ }
+    ensures { λ r. ⌜ stepMeant r ≡ stepOf at (linesOf (drop at (now (text .entry)))) ⌝ }
 {
     if at < text.len() {
         let end = feed(text, at);

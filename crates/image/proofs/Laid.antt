@@ -17,7 +17,7 @@ use Rattle.hexfile.proofs.PairLaws.{length-textOf}
 use Rattle.image.specs.Form.{imageSize}
 use Rattle.image.specs.Writing.{fieldsOf, recordText, rowBy, rowsText, imageText, writtenBy, rowsWritten, lengthOf, mostLength}
 use Rattle.image.specs.Parts.{PutsRow, PutsRows}
-use Rattle.image.specs.Promises.{writtenOf, WritesImage}
+use Rattle.image.specs.Promises.{writeVerdict, WritesImage}
 
 -- Two texts laid one after the other are their joining laid at once.
 pub sets-append : (vs ws out : List ℕ) (at next : ℕ) → next ≡ at + length vs
@@ -160,14 +160,14 @@ image-laid array out h =
 
 -- The three ends of writing: an array of another size, a buffer that may be too short, and the form written.
 pub refuses-size : (array out : List ℕ) → (length array ≡ imageSize → ⊥) → WritesImage array out (Refused 5 0) out
-unfolding writtenOf meant
+unfolding writeVerdict meant
 refuses-size array out h =
     let e = ne-eqb (length array) imageSize h in
     record { reply = rw e; said = rw e }
 
 pub refuses-room : (array out : List ℕ) → length array ≡ imageSize → length out < mostLength (length array)
     → WritesImage array out (Refused 19 0) out
-unfolding writtenOf meant
+unfolding writeVerdict meant
 refuses-room array out h k =
     let e = eq-eqb (length array) imageSize h in
     let f = lt-leb (mostLength (length array)) (length out) k in
@@ -176,7 +176,7 @@ refuses-room array out h k =
 pub writes : (array out : List ℕ) {r : ℕ} {out′ : List ℕ}
     → length array ≡ imageSize → mostLength (length array) ≤ length out → PutsRows array out r out′
     → WritesImage array out (Accepted r) out′
-unfolding writtenOf meant
+unfolding writeVerdict meant
 writes array out h k p =
     let e = eq-eqb (length array) imageSize h in
     let f = le-leb (mostLength (length array)) (length out) k in

@@ -5,21 +5,22 @@ use mathlib.Core.Path.{_≡_, refl, ap, sym, _∙_}
 use native.Mathlib.Omega.{arith}
 use lib.ListN.{length, take, drop, length-drop}
 use lib.Seq.{drop-drop, take-take}
-use Rattle.hexfile.specs.Lines.{linesOf, firstOf, trimmed, stepOf}
-use Rattle.hexfile.specs.Cells.{settledOf}
+use Rattle.hexfile.specs.Lines.{lineAt, noLine, linesOf, firstLine, trimmed, stepMeant, stepOf}
+use Rattle.hexfile.specs.declared.lines.Line.{Line}
 use Rattle.hexfile.specs.declared.lines.Line.the-variants.{At, End}
+use Rattle.hexfile.specs.Cells.{settledOf}
 use Rattle.hexfile.proofs.LineLaws.{first-take, lines-cons, lines-none, line-fits, trim-take, trim-length}
 use Rattle.refusals.specs.Refusals.{meant}
 use Rattle.refusals.specs.declared.Reply.the-variants.{Accepted, Refused}
 use Rattle.image.specs.Form.{bytesOf}
-use Rattle.image.specs.Reading.{taken, bad, givenOf, saysOf, lineBy, linesRead}
+use Rattle.image.specs.Reading.{Heard, saysMeant, taken, bad, givenOf, saysOf, lineBy, linesRead}
 use Rattle.image.specs.Parts.{Hears, ReadsLines}
 use Rattle.image.specs.declared.records.Says.{Says}
 use Rattle.image.specs.declared.records.Says.the-variants.{Gives, Ends, Faulty}
 
 -- A line step that answers a line has lines before it, and the line's two ends are those of the first.
-step-at : (ls : List (List ℕ)) (at t f : ℕ) → stepOf at ls ≡ At t f
-    → (ls ≡ [] → ⊥) × (t ≡ at + length (trimmed (firstOf ls))) × (f ≡ at + length (firstOf ls))
+step-at : (ls : List (List ℕ)) (at t f : ℕ) → stepOf at ls ≡ lineAt t f
+    → (ls ≡ [] → ⊥) × (t ≡ at + length (trimmed (firstLine ls))) × (f ≡ at + length (firstLine ls))
 unfolding stepOf
 step-at [] at t f e = let z : _≡_ {A = ℕ} 0 1 = cc in absurd (omega arith)
 step-at (l ∷ ls) at t f e =
@@ -28,7 +29,7 @@ step-at (l ∷ ls) at t f e =
     (λ h. let z : _≡_ {A = ℕ} 0 1 = cc in omega arith, omega arith, omega arith)
 
 -- And one that answers the end has none.
-step-none : (ls : List (List ℕ)) (at : ℕ) → stepOf at ls ≡ End → ls ≡ []
+step-none : (ls : List (List ℕ)) (at : ℕ) → stepOf at ls ≡ noLine → ls ≡ []
 unfolding stepOf
 step-none [] at e = refl
 step-none (l ∷ ls) at e = let z : _≡_ {A = ℕ} 0 1 = cc in absurd (omega arith)
@@ -44,23 +45,24 @@ pub record Found (text : List ℕ) (at t f : ℕ) : Type 0 where
   pub from : at ≤ t
   pub ends : t ≤ f
   pub fits : f ≤ length text
-  pub line : take (t - at) (drop at text) ≡ trimmed (firstOf (linesOf (drop at text)))
-  pub lines : linesOf (drop at text) ≡ firstOf (linesOf (drop at text)) ∷ linesOf (drop (f + 1) text)
-  pub place : f ≡ at + length (firstOf (linesOf (drop at text)))
+  pub line : take (t - at) (drop at text) ≡ trimmed (firstLine (linesOf (drop at text)))
+  pub lines : linesOf (drop at text) ≡ firstLine (linesOf (drop at text)) ∷ linesOf (drop (f + 1) text)
+  pub place : f ≡ at + length (firstLine (linesOf (drop at text)))
 
-pub found : (text : List ℕ) (at t f : ℕ) → At t f ≡ stepOf at (linesOf (drop at text)) → Found text at t f
-found text at t f e =
-    let l : List ℕ = firstOf (linesOf (drop at text)) in
-    let s = step-at (linesOf (drop at text)) at t f (sym e) in
+pub found : (text : List ℕ) (at t f : ℕ) (r : Line) → stepMeant r ≡ stepOf at (linesOf (drop at text)) → r ≡ At t f
+    → Found text at t f
+found text at t f r e g =
+    let l : List ℕ = firstLine (linesOf (drop at text)) in
+    let s = step-at (linesOf (drop at text)) at t f (sym e ∙ ap stepMeant g) in
     let n : length (drop at text) ≡ length text - at = length-drop at text in
     let p : t ≡ at + length (trimmed l) = s .1 in
     let q : f ≡ at + length l = s .2 in
     let h : 0 < length (drop at text) = some-text (drop at text) (s .0) in
     let k : length (trimmed l) ≤ length l = trim-length l in
     let c : t - at ≡ length (trimmed l) = omega arith in
-    let g : at + suc (length l) ≡ f + 1 = omega arith in
+    let b : at + suc (length l) ≡ f + 1 = omega arith in
     let d : drop (suc (length l)) (drop at text) ≡ drop (f + 1) text =
-    drop-drop (suc (length l)) at text ∙ ap (λ (i : ℕ). drop i text) g in
+    drop-drop (suc (length l)) at text ∙ ap (λ (i : ℕ). drop i text) b in
     let m : trimmed l ≡ take (length (trimmed l)) (drop at text) =
     trim-take l ∙ ap (λ (xs : List ℕ). take (length (trimmed l)) xs) (first-take (drop at text))
     ∙ take-take (length (trimmed l)) (length l) (drop at text) k in
@@ -75,7 +77,7 @@ found text at t f e =
     }
 
 -- One line read: what it says decides, and the lines after it are read on from the next place.
-turn-line : (total at next : ℕ) (cells line l : List ℕ) (all ls : List (List ℕ)) (r : Says)
+turn-line : (total at next : ℕ) (cells line l : List ℕ) (all ls : List (List ℕ)) (r : Heard)
     → all ≡ l ∷ ls → line ≡ trimmed l → next ≡ at + length l + 1 → r ≡ saysOf cells line
     → linesRead total at cells all ≡ lineBy r at next cells ls (linesRead total next (givenOf cells (bytesOf line)) ls)
 turn-line total at next cells line l all ls r e f g h = rw (h, f, g, e)
@@ -83,15 +85,15 @@ turn-line total at next cells line l all ls r e f g h = rw (h, f, g, e)
 turn : (text cells cells′ : List ℕ) (at t f : ℕ) (r : Says) → Found text at t f
     → Hears (take (t - at) (drop at text)) cells r cells′
     → linesRead (length text) at cells (linesOf (drop at text))
-    ≡ lineBy r at (f + 1) cells (linesOf (drop (f + 1) text))
+    ≡ lineBy (saysMeant r) at (f + 1) cells (linesOf (drop (f + 1) text))
     (linesRead (length text) (f + 1) (givenOf cells (bytesOf (take (t - at) (drop at text)))) (linesOf (drop (f + 1) text)))
 turn text cells cells′ at t f r w h =
-    turn-line (length text) at (f + 1) cells _ _ _ _ r (w .lines) (w .line) (ap (λ (n : ℕ). n + 1) (w .place)) (h .said)
+    turn-line (length text) at (f + 1) cells _ _ _ _ (saysMeant r) (w .lines) (w .line) (ap (λ (n : ℕ). n + 1) (w .place)) (h .said)
 
 -- Where no line is left there is no end record.
-pub turn-none : (text cells : List ℕ) (at : ℕ) → End ≡ stepOf at (linesOf (drop at text))
+pub turn-none : (text cells : List ℕ) (at : ℕ) (r : Line) → stepMeant r ≡ stepOf at (linesOf (drop at text)) → r ≡ End
     → linesRead (length text) at cells (linesOf (drop at text)) ≡ bad 17 (length text)
-turn-none text cells at e = rw (step-none (linesOf (drop at text)) at (sym e))
+turn-none text cells at r e g = rw (step-none (linesOf (drop at text)) at (sym e ∙ ap stepMeant g))
 
 -- A line that gives data leaves the lines after it.
 pub turn-gives : (text cells cells′ : List ℕ) (at t f : ℕ) (r : Says) → Found text at t f

@@ -9,7 +9,7 @@ use Rattle.part.specs.Kind.{kindOf}
 use Rattle.part.specs.Cases.{both, either}
 use Rattle.hexfile.specs.Pairs.{paired, pairsOf}
 
--- The array's size that an image is read into and written from (Refusal numbers, 5).
+-- The size of the array that an image is for (Refusal numbers, 5).
 abbrev pub imageSize : ℕ
 imageSize = kindOf x4323 .size
 
@@ -25,10 +25,11 @@ colon = 0x3A
 abbrev pub rowSize : ℕ
 rowSize = 16
 
--- The type of a data record, and that of the end record (Refusal numbers, 14).
+-- The type of a data record (Refusal numbers, 14).
 abbrev pub dataType : ℕ
 dataType = 0
 
+-- The type of the end record (Refusal numbers, 14).
 abbrev pub endType : ℕ
 endType = 1
 
@@ -36,20 +37,23 @@ endType = 1
 abbrev pub charactersIn : ℕ → ℕ
 charactersIn count = 11 + 2 * count
 
--- A record's bytes: those of the pairs after the colon, checksum included.
+-- A record's bytes: those of the pairs after the colon, checksum included (Image files, colon).
 unfoldable pub bytesOf : List ℕ → List ℕ
 bytesOf l = pairsOf (drop 1 l)
 
--- The fields of a record's bytes, in their order (Image files, count, 16-bit address, type, data).
+-- The first byte of a record is its count (Image files, count).
 abbrev pub countOf : List ℕ → ℕ
 countOf bs = getD bs 0 0
 
+-- The next two are its address, the higher first (Image files, 16-bit address).
 abbrev pub addressOf : List ℕ → ℕ
 addressOf bs = getD bs 1 0 * byteValues + getD bs 2 0
 
+-- The fourth is its type (Image files, type).
 abbrev pub typeOf : List ℕ → ℕ
 typeOf bs = getD bs 3 0
 
+-- Then come so many bytes of data as the count says (Image files, data).
 abbrev pub dataOf : List ℕ → List ℕ
 dataOf bs = take (countOf bs) (drop 4 bs)
 
@@ -67,6 +71,10 @@ typeBy false false noCount noAddress = false
 unfoldable pub typed : List ℕ → Bool
 typed bs = typeBy (eqb (typeOf bs) dataType) (eqb (typeOf bs) endType) (eqb (countOf bs) 0) (eqb (addressOf bs) 0)
 
--- Whether a record's data lie in an array of a size; no data lie anywhere (Refusal numbers, 15).
+-- Whether so many bytes from an address on lie in an array of a size; none do at any address (Refusal numbers, 15).
+abbrev pub fitsIn : ℕ → ℕ → ℕ → Bool
+fitsIn size address count = either (eqb count 0) (leb (address + count) size)
+
+-- Whether a record's data lie in an array of a size (Refusal numbers, 15).
 unfoldable pub inside : ℕ → List ℕ → Bool
-inside size bs = either (eqb (countOf bs) 0) (leb (addressOf bs + countOf bs) size)
+inside size bs = fitsIn size (addressOf bs) (countOf bs)

@@ -3,20 +3,17 @@ use Prim.Native.Nat.{ℕ, _+_, _*_, _/_}
 use mathlib.Core.Bool.{Bool, true, false}
 use mathlib.Core.List.{List, _++_}
 use mathlib.Core.Path.{_≡_}
-use lib.Dec.{eqb, leb}
 use lib.ListN.{length, take, drop}
 use lib.Seq.{sets}
-use Rattle.part.specs.Cases.{either}
 use Rattle.hexfile.specs.Lines.{linesOf}
 use Rattle.hexfile.specs.Cells.{freshOf, giveOf, settledOf, blankOf}
 use Rattle.refusals.specs.Refusals.{meant}
 use Rattle.refusals.specs.declared.Reply.{Reply}
-use Rattle.image.specs.Form.{bytesOf, wellFormed}
-use Rattle.image.specs.Reading.{givenOf, saysBy, recordSays, saysOf, linesRead}
+use Rattle.image.specs.Form.{bytesOf, wellFormed, fitsIn}
+use Rattle.image.specs.Reading.{Heard, gives, ends, faulty, saysMeant, givenOf, saysBy, recordSays, saysOf, linesRead}
 use Rattle.image.specs.Writing.{rowBy, writtenBy, rowLength, imageText, lengthOf}
 use Rattle.image.specs.Promises.{verdictOf, arrayAfter}
 use Rattle.image.specs.declared.records.Says.{Says}
-use Rattle.image.specs.declared.records.Says.the-variants.{Gives, Ends, Faulty}
 
 -- Whether a line is well formed, and if it is, its bytes at the start of the room.
 pub record Forms (line : List ℕ) (r : Bool) (room′ : List ℕ) : Type 0 where
@@ -24,25 +21,25 @@ pub record Forms (line : List ℕ) (r : Bool) (room′ : List ℕ) : Type 0 wher
   pub bytes : r ≡ true → take (length line / 2) room′ ≡ bytesOf line
 
 -- The cells after a line: only data that are given change them.
-abbrev pub cellsBy : Says → List ℕ → List ℕ → List ℕ
-cellsBy Gives cells given = given
-cellsBy Ends cells given = cells
-cellsBy (Faulty k) cells given = cells
+abbrev pub cellsBy : Heard → List ℕ → List ℕ → List ℕ
+cellsBy gives cells given = given
+cellsBy ends cells given = cells
+cellsBy (faulty k) cells given = cells
 
 -- Data at an address: refusals 15 and 16, or the cells with the data given.
 pub record Places (address : ℕ) (bs cells : List ℕ) (r : Says) (cells′ : List ℕ) : Type 0 where
-  pub said : r ≡ saysBy true true true (either (eqb (length bs) 0) (leb (address + length bs) (length cells))) (freshOf (drop address cells) bs) false
-  pub kept : cells′ ≡ cellsBy r cells (take address cells ++ giveOf (drop address cells) bs)
+  pub said : saysMeant r ≡ saysBy true true true (fitsIn (length cells) address (length bs)) (freshOf (drop address cells) bs) false
+  pub kept : cells′ ≡ cellsBy (saysMeant r) cells (take address cells ++ giveOf (drop address cells) bs)
 
 -- The bytes of a well-formed line: what they say, and the cells after them.
 pub record Judges (bs cells : List ℕ) (r : Says) (cells′ : List ℕ) : Type 0 where
-  pub said : r ≡ recordSays cells true bs
-  pub kept : cells′ ≡ cellsBy r cells (givenOf cells bs)
+  pub said : saysMeant r ≡ recordSays cells true bs
+  pub kept : cells′ ≡ cellsBy (saysMeant r) cells (givenOf cells bs)
 
 -- A line: what it says, and the cells after it.
 pub record Hears (line cells : List ℕ) (r : Says) (cells′ : List ℕ) : Type 0 where
-  pub said : r ≡ saysOf cells line
-  pub kept : cells′ ≡ cellsBy r cells (givenOf cells (bytesOf line))
+  pub said : saysMeant r ≡ saysOf cells line
+  pub kept : cells′ ≡ cellsBy (saysMeant r) cells (givenOf cells (bytesOf line))
 
 -- The lines of a text over cells: the reply, and if it is acceptance, the cells that settle to the array.
 pub record ReadsLines (text cells : List ℕ) (r : Reply) (cells′ : List ℕ) : Type 0 where

@@ -1,4 +1,4 @@
--- What the operations promise, for every input: the whole reply, and what array and buffer hold at the end. Every definition is total.
+-- What the operations promise, for every input: the whole reply, and what array and buffer hold at the end.
 use Prim.Native.Nat.{ℕ}
 use mathlib.Core.Bool.{Bool, true, false}
 use mathlib.Core.List.{List, _++_}
@@ -20,12 +20,12 @@ imageBy true r = r
 unfoldable pub imageOf : List ℕ → List ℕ → Reading
 imageOf text array = imageBy (eqb (length array) imageSize) (readingOf (length array) text)
 
--- The paper's answer to a reading: acceptance with the length that was read, or the refusal.
+-- The answer to a reading: acceptance, by our choice with the text's length, or the refusal (Refusal numbers, 5, 11 to 18).
 abbrev pub verdictOf : Reading → ℕ → Verdict
 verdictOf (taken array) n = accepted n
 verdictOf (bad k p) n = refused k p
 
--- The array after a reading: refused, as it was (Refusal numbers, last lines).
+-- The array after a reading: what the text gives; after a refusal as it was (Refusal numbers, any other refusal).
 abbrev pub arrayAfter : Reading → List ℕ → List ℕ
 arrayAfter (taken array) old = array
 arrayAfter (bad k p) old = old
@@ -42,8 +42,8 @@ writeBy true false n = refused 19 0
 writeBy true true n = accepted n
 
 -- The writer's verdict (Refusal numbers, 5, 19).
-unfoldable pub writtenOf : List ℕ → List ℕ → Verdict
-writtenOf array out = writeBy (eqb (length array) imageSize) (leb (mostLength (length array)) (length out)) (lengthOf array)
+unfoldable pub writeVerdict : List ℕ → List ℕ → Verdict
+writeVerdict array out = writeBy (eqb (length array) imageSize) (leb (mostLength (length array)) (length out)) (lengthOf array)
 
 -- The buffer after writing: the fixed form, and after it what was there; refused, as it was (Image files, bytes after that stay).
 abbrev pub outAfter : Verdict → List ℕ → List ℕ → List ℕ
@@ -52,5 +52,5 @@ outAfter (refused k p) array out = out
 
 -- Writing an image: its verdict, and the buffer with the fixed form at its start (Refusal numbers, 5, 19; Image files).
 pub record WritesImage (array out : List ℕ) (r : Reply) (out′ : List ℕ) : Type 0 where
-  pub reply : meant r ≡ writtenOf array out
-  pub said : out′ ≡ outAfter (writtenOf array out) array out
+  pub reply : meant r ≡ writeVerdict array out
+  pub said : out′ ≡ outAfter (writeVerdict array out) array out

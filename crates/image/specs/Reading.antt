@@ -5,7 +5,7 @@ use mathlib.Core.List.{List, [], _∷_, _++_}
 use lib.Dec.{eqb, leb}
 use lib.ListN.{length, take, drop, replicate}
 use Rattle.hexfile.specs.Lines.{linesOf, trimmed}
-use Rattle.hexfile.specs.Pairs.{sound}
+use Rattle.hexfile.specs.Pairs.{sumsToZero}
 use Rattle.hexfile.specs.Cells.{notGiven, freshOf, giveOf, settledOf}
 use Rattle.image.specs.Form.{mostText, endType, bytesOf, addressOf, typeOf, dataOf, wellFormed, typed, inside}
 use Rattle.image.specs.declared.records.Says.{Says}
@@ -19,35 +19,48 @@ fresh cells bs = freshOf (drop (addressOf bs) cells) (dataOf bs)
 unfoldable pub givenOf : List ℕ → List ℕ → List ℕ
 givenOf cells bs = take (addressOf bs) cells ++ giveOf (drop (addressOf bs) cells) (dataOf bs)
 
--- Refusals 12 to 16 in numeric order; a sound record ends the image or gives its data (Refusal numbers, 12 to 16).
-abbrev pub saysBy : Bool → Bool → Bool → Bool → Bool → Bool → Says
-saysBy false s t i f e = Faulty 12
-saysBy true false t i f e = Faulty 13
-saysBy true true false i f e = Faulty 14
-saysBy true true true false f e = Faulty 15
-saysBy true true true true false e = Faulty 16
-saysBy true true true true true true = Ends
-saysBy true true true true true false = Gives
+-- What a line says: it gives data, it ends the image, or it is faulty with a number (Refusal numbers, 12 to 16).
+pub data Heard : Type 0 where
+  gives : Heard
+  ends : Heard
+  faulty : ℕ → Heard
 
--- What a line says to cells, given whether it is well formed and its bytes.
-unfoldable pub recordSays : List ℕ → Bool → List ℕ → Says
-recordSays cells formed bs = saysBy formed (sound bs) (typed bs) (inside (length cells) bs) (fresh cells bs) (eqb (typeOf bs) endType)
+-- What each case of the code's answer to a line says in the paper's numbers (Refusal numbers, 12 to 16).
+abbrev pub saysMeant : Says → Heard
+saysMeant Gives = gives
+saysMeant Ends = ends
+saysMeant (Faulty k) = faulty k
+
+-- Refusals 12 to 16 in numeric order; a line without fault ends the image or gives its data (Refusal numbers, 12 to 16).
+abbrev pub saysBy : Bool → Bool → Bool → Bool → Bool → Bool → Heard
+saysBy false summed known within new last = faulty 12
+saysBy true false known within new last = faulty 13
+saysBy true true false within new last = faulty 14
+saysBy true true true false new last = faulty 15
+saysBy true true true true false last = faulty 16
+saysBy true true true true true true = ends
+saysBy true true true true true false = gives
+
+-- What a record's bytes say to cells, given whether its line is well formed (Refusal numbers, 12 to 16).
+unfoldable pub recordSays : List ℕ → Bool → List ℕ → Heard
+recordSays cells formed bs =
+    saysBy formed (sumsToZero bs) (typed bs) (inside (length cells) bs) (fresh cells bs) (eqb (typeOf bs) endType)
 
 -- What a line says to cells (Refusal numbers, 12 to 16).
-unfoldable pub saysOf : List ℕ → List ℕ → Says
+unfoldable pub saysOf : List ℕ → List ℕ → Heard
 saysOf cells l = recordSays cells (wellFormed l) (bytesOf l)
 
--- What a text gives: an array, or a refusal number with its place.
+-- What a text gives: an array, or a refusal number with its place (Image files; Refusal numbers, 11 to 18).
 pub data Reading : Type 0 where
   taken : List ℕ → Reading
   bad : ℕ → ℕ → Reading
 
--- A faulty line is refused at its place; after the end only no line may stand; data go on to the lines left (Refusal numbers).
-abbrev pub lineBy : Says → ℕ → ℕ → List ℕ → List (List ℕ) → Reading → Reading
-lineBy (Faulty k) place next cells ls rest = bad k place
-lineBy Ends place next cells [] rest = taken (settledOf cells)
-lineBy Ends place next cells (l ∷ ls) rest = bad 18 next
-lineBy Gives place next cells ls rest = rest
+-- A faulty line is refused at its place, any byte after the end line is 18 at the first; data go on (Refusal numbers, 12 to 18).
+abbrev pub lineBy : Heard → ℕ → ℕ → List ℕ → List (List ℕ) → Reading → Reading
+lineBy (faulty k) place next cells ls rest = bad k place
+lineBy ends place next cells [] rest = taken (settledOf cells)
+lineBy ends place next cells (l ∷ ls) rest = bad 18 next
+lineBy gives place next cells ls rest = rest
 
 -- The lines from a place on, given the whole text's length and the cells so far; no line left is no end record (Refusal numbers, 17).
 abbrev pub linesRead : ℕ → ℕ → List ℕ → List (List ℕ) → Reading

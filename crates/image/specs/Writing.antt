@@ -29,7 +29,7 @@ rowsText zero address bs = recordText 0 endType []
 rowsText (suc n) address bs =
     rowBy (blankOf (take rowSize bs)) address (take rowSize bs) ++ rowsText n (address + rowSize) (drop rowSize bs)
 
--- The rows of an array.
+-- How many whole rows an array has (Image files, the writer).
 abbrev pub rowsIn : List ℕ → ℕ
 rowsIn array = length array / rowSize
 
@@ -42,15 +42,16 @@ abbrev pub writtenBy : Bool → ℕ
 writtenBy true = 0
 writtenBy false = 1
 
--- How many of so many rows are written.
+-- How many of so many rows are written (Image files, the writer).
 abbrev pub rowsWritten : ℕ → List ℕ → ℕ
 rowsWritten zero bs = 0
 rowsWritten (suc n) bs = writtenBy (blankOf (take rowSize bs)) + rowsWritten n (drop rowSize bs)
 
--- Bytes of a row's line, and of the end line: a record's characters and a line feed, 44 and 12 (Image files, the writer).
+-- Characters of a row's line, its line feed included: 44 (Image files, the writer).
 abbrev pub rowLength : ℕ
 rowLength = charactersIn rowSize + 1
 
+-- Those of the end line: 12 (Image files, the writer).
 abbrev pub endLength : ℕ
 endLength = charactersIn 0 + 1
 

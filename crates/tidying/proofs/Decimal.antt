@@ -9,11 +9,13 @@ use lib.Seq.{sets-eq, take-all, drop-drop, length-take-le}
 use borrow.Author.Tests.{lt-ltb, le-ltb}
 use Rattle.io.specs.Digits.{glyph, digits, Fewest}
 use Rattle.part.proofs.Laws.{part-back}
-use Rattle.tidying.specs.Shown.{decimalDigit, decimalIn, decimalOf, Lays}
+use Rattle.hexfile.specs.Digits.{glyphOf}
+use Rattle.tidying.specs.Shown.{decimalIn, decimalOf, Lays}
 
 -- A decimal digit as the kit writes it.
-glyph-digit : (n : ℕ) → glyph (n % 10) ≡ decimalDigit (n % 10)
-glyph-digit n = rw (lt-ltb (n % 10) 10 (omega arith))
+glyph-digit : (n : ℕ) → glyph (n % 10) ≡ glyphOf (n % 10)
+unfolding glyphOf
+glyph-digit n = rw (lt-ltb (n % 10) 10 (omega arith)) (omega arith)
 
 -- A power of ten is more than its exponent.
 exponent-less : (j : ℕ) → j < 10 ^ j

@@ -14,7 +14,7 @@ use Rattle.refusals.proofs.Laws.{is-accepted, is-refused, apart}
 use Rattle.image.specs.Form.{imageSize}
 use Rattle.image.specs.Reading.{Reading, taken, bad, readingOf}
 use Rattle.image.specs.Writing.{imageText, lengthOf, mostLength}
-use Rattle.image.specs.Promises.{imageOf, verdictOf, arrayAfter, writtenOf, ReadsImage, WritesImage}
+use Rattle.image.specs.Promises.{imageOf, verdictOf, arrayAfter, writeVerdict, ReadsImage, WritesImage}
 use Rattle.image.proofs.Laid.{sets-append, length-image}
 use Rattle.tidying.specs.Shown.{decimalOf, refusalLine, shownOf, Starts, Lays}
 
@@ -52,8 +52,8 @@ refusal-starts k p s f out ks ps a h b g m =
 
 -- Writing is not refused where array and buffer have their sizes.
 written : (array out : List ℕ) → length array ≡ imageSize → mostLength imageSize ≤ length out
-    → writtenOf array out ≡ accepted (lengthOf array)
-unfolding writtenOf
+    → writeVerdict array out ≡ accepted (lengthOf array)
+unfolding writeVerdict
 written array out h k =
     let m : mostLength (length array) ≤ length out = rw h k in
     rw (eq-eqb (length array) imageSize h, le-leb (mostLength (length array)) (length out) m)
@@ -61,13 +61,13 @@ written array out h k =
 pub image-refused : (array out out′ : List ℕ) (r : Reply) (k p : ℕ) → length array ≡ imageSize → mostLength imageSize ≤ length out
     → WritesImage array out r out′ → r ≡ Refused k p → ⊥
 image-refused array out out′ r k p h m w e =
-    apart k p (lengthOf array) (sym (is-refused r (writtenOf array out) k p (w .reply) e) ∙ written array out h m)
+    apart k p (lengthOf array) (sym (is-refused r (writeVerdict array out) k p (w .reply) e) ∙ written array out h m)
 
 pub image-starts : (array out out′ : List ℕ) (r : Reply) (n : ℕ) → length array ≡ imageSize → mostLength imageSize ≤ length out
     → WritesImage array out r out′ → r ≡ Accepted n → Starts (imageText array) out n out′
 image-starts array out out′ r n h m w e =
     let v : accepted n ≡ accepted (lengthOf array) =
-    sym (is-accepted r (writtenOf array out) n (w .reply) e) ∙ written array out h m in
+    sym (is-accepted r (writeVerdict array out) n (w .reply) e) ∙ written array out h m in
     let q : lengthOf array ≡ n = cc in
     let s : out′ ≡ imageText array ++ drop n out = rw (written array out h m, q) at (w .said) in
     let l : length (imageText array) ≡ n = length-image array ∙ q in

@@ -7,36 +7,37 @@ use lib.Dec.{ltb}
 use lib.ListN.{length, drop}
 use lib.Seq.{sets}
 use Rattle.io.specs.Counts.{Counts}
+use Rattle.hexfile.specs.Digits.{glyphOf}
 use Rattle.hexfile.specs.Lines.{lineFeed}
 use Rattle.image.specs.Form.{imageSize}
 use Rattle.image.specs.Reading.{Reading, taken, bad, readingOf}
 use Rattle.image.specs.Writing.{imageText}
 
--- The character of a decimal digit.
-abbrev pub decimalDigit : ℕ → ℕ
-decimalDigit d = 0x30 + d
+-- How many values a decimal digit has (Image files, in decimal).
+abbrev pub ten : ℕ
+ten = 10
 
--- A number below ten is its one digit; any other has that of its units after those of its tens.
+-- A number below ten is its one digit; any other has that of its units after those of its tens (Image files, in decimal).
 abbrev pub decimalBy : Bool → List ℕ → ℕ → List ℕ
-decimalBy true tens n = decimalDigit (n % 10) ∷ []
-decimalBy false tens n = tens ++ (decimalDigit (n % 10) ∷ [])
+decimalBy true tens n = glyphOf (n % ten) ∷ []
+decimalBy false tens n = tens ++ (glyphOf (n % ten) ∷ [])
 
--- A number in decimal, of at most one digit more than the first number says.
+-- A number in decimal, where it has at most one digit more than the first number says (Image files, in decimal).
 abbrev pub decimalIn : ℕ → ℕ → List ℕ
-decimalIn zero n = decimalDigit (n % 10) ∷ []
-decimalIn (suc more) n = decimalBy (ltb n 10) (decimalIn more (n / 10)) n
+decimalIn zero n = glyphOf (n % ten) ∷ []
+decimalIn (suc more) n = decimalBy (ltb n ten) (decimalIn more (n / ten)) n
 
--- A number in decimal, without zeros in front; it never has more digits than one and its own value.
+-- A number in decimal, with no zeros in front; n has at most n + 1 digits (Image files, in decimal).
 unfoldable pub decimalOf : ℕ → List ℕ
 decimalOf n = decimalIn n n
 
--- A blank between two numbers.
-abbrev pub blank : ℕ
-blank = 0x20
+-- The character between number and place (Image files, number, space, place).
+abbrev pub space : ℕ
+space = 0x20
 
--- A refusal's line: number, space, place, in decimal (Image files, on a refusal).
+-- A refusal's line: number, space, place, in decimal, and a line feed (Image files, on a refusal).
 unfoldable pub refusalLine : ℕ → ℕ → List ℕ
-refusalLine number place = decimalOf number ++ (blank ∷ decimalOf place ++ (lineFeed ∷ []))
+refusalLine number place = decimalOf number ++ (space ∷ decimalOf place ++ (lineFeed ∷ []))
 
 -- An accepted text is written in its fixed form, of a refused one only the refusal's line (Image files).
 abbrev pub shownBy : Reading → List ℕ
@@ -47,13 +48,13 @@ shownBy (bad k p) = refusalLine k p
 unfoldable pub shownOf : List ℕ → List ℕ
 shownOf text = shownBy (readingOf imageSize text)
 
--- A text stands at the start of a buffer, its length is answered, and the buffer's other bytes stay.
+-- A text at the start of a buffer: its length is answered, the buffer's other bytes stay; the last part repeats r ≤ length for callers.
 pub record Starts (text out : List ℕ) (r : ℕ) (out′ : List ℕ) : Type 0 where
   pub shown : out′ ≡ text ++ drop r out
   pub count : r ≡ length text
   pub fits : Counts r out′
 
--- A text laid over a buffer from a place on, and where it ends.
+-- Between inner functions: a text laid over a buffer from a place on, and where it ends.
 pub record Lays (text out : List ℕ) (at r : ℕ) (out′ : List ℕ) : Type 0 where
   pub laid : out′ ≡ sets out at text
   pub next : r ≡ at + length text

@@ -18,7 +18,7 @@ const SIZE: usize = 4096;
 // The most digits of a number.
 const DIGITS: usize = 20;
 
-const BLANK: u8 = 0x20;
+const SPACE: u8 = 0x20;
 
 // Writes a number in decimal over `out` from `at` on, and answers where it ends.
 fn put_decimal(value: u64, out: &mut [u8], at: usize) -> usize
@@ -37,11 +37,11 @@ fn put_refusal(number: u8, place: usize, out: &mut [u8]) -> usize
     requires { ⌜ 42 ≤ length (now out) ⌝ }
     ensures { λ r. ⌜ Starts (refusalLine number place) (now (out .entry)) r (now (out .exit)) ⌝ }
 {
-    let space = put_decimal(number as u64, out, 0);
-    out[space] = BLANK;
-    let feed = put_decimal(place as u64, out, space + 1);
-    out[feed] = hexfile::lines::LINE_FEED;
-    feed + 1
+    let first = put_decimal(number as u64, out, 0);
+    out[first] = SPACE;
+    let last = put_decimal(place as u64, out, first + 1);
+    out[last] = hexfile::lines::LINE_FEED;
+    last + 1
 }
 
 // Writes the fixed form of an array over `out`, or the refusal's line, and answers the length.

@@ -5,7 +5,7 @@ use native.Mathlib.Omega.{arith}
 use native.Mathlib.Numerals.{add-one}
 use borrow.Author.Needs.{needs}
 use lib.ListN.{length, drop}
-use Rattle.hexfile.specs.Lines.{linesOf, firstOf}
+use Rattle.hexfile.specs.Lines.{linesOf, firstLine}
 use Rattle.hexfile.proofs.LineLaws.{first-ends, first-turn, first-none}
 use Rattle.hexfile.proofs.lines.feed.Statement.{statement}
 use Rattle.hexfile.proofs.lines.feed.Tie as tie
@@ -13,7 +13,7 @@ use Rattle.hexfile.proofs.lines.feed.Tie as tie
 abbrev Inv-loop : tie.InvT-loop
 Inv-loop text at i₀ i =
     (i ≤ length text)
-    × (at + length (firstOf (linesOf (drop at text))) ≡ i + length (firstOf (linesOf (drop i text))))
+    × (at + length (firstLine (linesOf (drop at text))) ≡ i + length (firstLine (linesOf (drop i text))))
 
 abbrev μ-loop : tie.MeasureT-loop
 μ-loop text at i₀ i = length text - i

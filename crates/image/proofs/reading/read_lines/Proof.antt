@@ -1,7 +1,7 @@
 -- `image::reading::read_lines` meets its contract.
 use borrow.Author.Needs.{needs}
 use Prim.Native.Nat.{_-_}
-use mathlib.Core.Path.{_≡_, refl, sym, _∙_}
+use mathlib.Core.Path.{_≡_, refl, _∙_}
 use native.Mathlib.Omega.{arith}
 use borrow.Author.Needs.{needs}
 use lib.ListN.{length, drop}
@@ -37,19 +37,19 @@ same-length c = c .before .before .before .loop .inv .0
 returns : tie.Need-returns Inv-loop μ-loop
 returns c =
     let l = c .before .before .before .loop in
-    lines-refused _ _ _ _ _ (l .inv .1 ∙ turn-none _ _ _ (sym (c .enum-told .given .1) ∙ c .before .before .next-line .ensures))
+    lines-refused _ _ _ _ _ (l .inv .1 ∙ turn-none _ _ _ _ (c .before .before .next-line .ensures) (c .enum-told .given .1))
 
 sub-hear : tie.Need-sub-hear Inv-loop μ-loop
-sub-hear c = found _ _ _ _ (sym (c .before .line .given .1) ∙ c .before .before .before .next-line .ensures) .from
+sub-hear c = found _ _ _ _ _ (c .before .before .before .next-line .ensures) (c .before .line .given .1) .from
 
 part-hear-start : tie.Need-part-hear-start Inv-loop μ-loop
 part-hear-start c =
-    let w = found _ _ _ _ (sym (c .before .line .given .1) ∙ c .before .before .before .next-line .ensures) in
+    let w = found _ _ _ _ _ (c .before .before .before .next-line .ensures) (c .before .line .given .1) in
     omega arith
 
 part-hear-end : tie.Need-part-hear-end Inv-loop μ-loop
 part-hear-end c =
-    let w = found _ _ _ _ (sym (c .before .line .given .1) ∙ c .before .before .before .next-line .ensures) in
+    let w = found _ _ _ _ _ (c .before .before .before .next-line .ensures) (c .before .line .given .1) in
     omega arith
 
 hear-requires : tie.Need-hear-requires Inv-loop μ-loop
@@ -57,7 +57,7 @@ hear-requires c κs = search needs
 
 add-next : tie.Need-add-next Inv-loop μ-loop
 add-next c =
-    let w = found _ _ _ _ (sym (c .before .before .before .before .before .before .line .given .1) ∙ c .before .before .before .before .before .before .before .before .next-line .ensures) in
+    let w = found _ _ _ _ _ (c .before .before .before .before .before .before .before .before .next-line .ensures) (c .before .before .before .before .before .before .line .given .1) in
     omega arith
 
 enum-told-2 : tie.Need-enum-told-2 Inv-loop μ-loop
@@ -65,12 +65,12 @@ enum-told-2 c = search needs
 
 loop-less : tie.Need-loop-less Inv-loop μ-loop
 loop-less c =
-    let w = found _ _ _ _ (sym (c .before .before .before .before .before .before .before .before .line .given .1) ∙ c .before .before .before .before .before .before .before .before .before .before .next-line .ensures) in
+    let w = found _ _ _ _ _ (c .before .before .before .before .before .before .before .before .before .before .next-line .ensures) (c .before .before .before .before .before .before .before .before .line .given .1) in
     omega arith
 
 loop-again : tie.Need-loop-again Inv-loop μ-loop
 loop-again c =
-    let w = found _ _ _ _ (sym (c .before .before .before .before .before .before .before .before .line .given .1) ∙ c .before .before .before .before .before .before .before .before .before .before .next-line .ensures) in
+    let w = found _ _ _ _ _ (c .before .before .before .before .before .before .before .before .before .before .next-line .ensures) (c .before .before .before .before .before .before .before .before .line .given .1) in
     (c .before .before .before .before .hear .kept .1 .0 ∙ c .before .before .before .before .before .before .before .before .before .before .before .loop .inv .0, c .before .before .before .before .before .before .before .before .before .before .before .loop .inv .1 ∙ turn-gives _ _ _ _ _ _ _ w (c .before .before .before .before .hear .ensures) (c .enum-told2 .given .1))
 
 enum-told-3 : tie.Need-enum-told-3 Inv-loop μ-loop
@@ -82,7 +82,7 @@ same-length-2 c =
 
 returns-2 : tie.Need-returns-2 Inv-loop μ-loop
 returns-2 c =
-    let w = found _ _ _ _ (sym (c .before .before .before .before .before .before .before .before .before .line .given .1) ∙ c .before .before .before .before .before .before .before .before .before .before .before .next-line .ensures) in
+    let w = found _ _ _ _ _ (c .before .before .before .before .before .before .before .before .before .before .before .next-line .ensures) (c .before .before .before .before .before .before .before .before .before .line .given .1) in
     lines-refused _ _ _ _ _
     (c .before .before .before .before .before .before .before .before .before .before .before .before .loop .inv .1 ∙ turn-after _ _ _ _ _ _ _ w (c .before .before .before .before .before .hear .ensures) (c .before .enum-told3 .given .1) (c .if1 .taken))
 
@@ -92,7 +92,7 @@ same-length-3 c =
 
 returns-3 : tie.Need-returns-3 Inv-loop μ-loop
 returns-3 c =
-    let w = found _ _ _ _ (sym (c .before .before .before .before .before .before .before .before .before .line .given .1) ∙ c .before .before .before .before .before .before .before .before .before .before .before .next-line .ensures) in
+    let w = found _ _ _ _ _ (c .before .before .before .before .before .before .before .before .before .before .before .next-line .ensures) (c .before .before .before .before .before .before .before .before .before .line .given .1) in
     lines-accepted _ _ _
     (c .before .before .before .before .before .before .before .before .before .before .before .before .loop .inv .1 ∙ turn-ends _ _ _ _ _ _ _ w (c .before .before .before .before .before .hear .ensures) (c .before .enum-told3 .given .1) (c .if1 .left))
 
@@ -105,7 +105,7 @@ same-length-4 c =
 
 returns-4 : tie.Need-returns-4 Inv-loop μ-loop
 returns-4 c =
-    let w = found _ _ _ _ (sym (c .before .before .before .before .before .before .before .before .before .line .given .1) ∙ c .before .before .before .before .before .before .before .before .before .before .before .next-line .ensures) in
+    let w = found _ _ _ _ _ (c .before .before .before .before .before .before .before .before .before .before .before .next-line .ensures) (c .before .before .before .before .before .before .before .before .before .line .given .1) in
     lines-refused _ _ _ _ _
     (c .before .before .before .before .before .before .before .before .before .before .before .before .loop .inv .1 ∙ turn-faulty _ _ _ _ _ _ _ _ w (c .before .before .before .before .before .hear .ensures) (c .before .says .given .1))
 
