@@ -12,3 +12,5 @@ pub mod RoundTrip
 pub mod Operations
 pub mod ImageCases
 pub mod Tidied
+pub mod LockCases
+pub mod BenchList

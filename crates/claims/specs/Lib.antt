@@ -1,2 +1,4 @@
 pub mod RoundTrip
 pub mod Cases
+pub mod Traffic
+pub mod BenchCases

@@ -1,7 +1,7 @@
 -- What the operations promise, for every input: the whole reply, the state, and what each lent row holds at the end. Nothing here is
 -- assumed of an input: every definition is total.
 use Prim.Native.Nat.{ℕ}
-use mathlib.Core.List.{List, []}
+use mathlib.Core.List.{List}
 use mathlib.Core.Path.{_≡_}
 use Rattle.part.specs.Kind.{kindOf, known}
 use Rattle.part.specs.declared.state.State.{State}
@@ -43,7 +43,7 @@ pub record SizesPart (part : ℕ) (r : Size) : Type 0 where
   pub said : sizeMeant r ≡ sizeBy (known part) (kindOf part .size)
 
 -- The samples of an accepted capture: the part after them, and an answer for each (What goes in and what comes out).
-pub record Runs (s : State) (es ls array row : List ℕ) (r : State) (array′ row′ : List ℕ) : Type 0 where
+pub record Runs (s : State) (es ls array : List ℕ) (r : State) (array′ row′ : List ℕ) : Type 0 where
   pub state : r ≡ runOf es ls (record { state = s; array = array }) .state
   pub kept : array′ ≡ runOf es ls (record { state = s; array = array }) .array
   pub said : row′ ≡ answersOf es ls (record { state = s; array = array })

@@ -18,7 +18,7 @@ pub struct Replayed {
 fn run(s: State, elapsed: &[u32], levels: &[u8], array: &mut [u8], row: &mut [u8]) -> State
     requires { ⌜ length (now elapsed) ≡ length (now levels) ⌝ }
     requires { ⌜ length (now row) ≡ length (now levels) ⌝ }
-    ensures { λ r. ⌜ Runs s (now (elapsed .entry)) (now (levels .entry)) (now (array .entry)) (now (row .entry)) r (now (array .exit)) (now (row .exit)) ⌝ }
+    ensures { λ r. ⌜ Runs s (now (elapsed .entry)) (now (levels .entry)) (now (array .entry)) r (now (array .exit)) (now (row .exit)) ⌝ }
 {
     let mut state = s;
     let mut i = 0;

@@ -1,0 +1,144 @@
+-- The bench cases P1 to P9, and all eleven in one list (document 01, Bench cases); P10 and P11 are in ImageCases.
+use Prim.Native.Nat.{ℕ, _-_, _%_}
+use mathlib.Core.Bool.{Bool, true, false}
+use mathlib.Core.List.{List, [], _∷_, _++_}
+use mathlib.Core.Path.{_≡_}
+use lib.ListN.{length, take, drop, replicate}
+use Rattle.part.specs.Numbers.{x4323, x4325, writeTime, registerAddress}
+use Rattle.part.specs.Kind.{kindOf}
+use Rattle.part.specs.Lock.{blockCode, lockedOf}
+use Rattle.part.specs.Timers.{watchCode}
+use Rattle.part.specs.Page.{at}
+use Rattle.part.specs.declared.kinds.Kind.{Kind}
+use Rattle.part.specs.declared.state.Phase.the-variants.{Data}
+use Rattle.part.specs.declared.state.Control.{Control}
+use Rattle.part.specs.declared.state.Device.{Device}
+use Rattle.control.specs.Register.{readsOf}
+use Rattle.device.specs.Bytes.{byteOf}
+use Rattle.twin.specs.Power.{poweredUp}
+use Rattle.twin.specs.Run.{Part, runOf, answersOf}
+use Rattle.claims.specs.Cases.{P10, P11}
+use Rattle.claims.specs.Traffic.{Move, timesOf, levelsOf, wait, start, sent, awake, written, ordered, readAt}
+
+-- A part just powered up, with an array (State and time, power-up).
+abbrev pub fresh : ℕ → ℕ → ℕ → List ℕ → Part
+fresh part select stored array = record { state = poweredUp part select stored; array = array }
+
+-- Reset is kept for 100,000 + 99,999 after the first good-VCC sample, and 1 more ends it: the pin's bit (Bench cases, P1).
+pub record P1 : Type 0 where
+  pub low : answersOf (0 ∷ 100000 ∷ 99999 ∷ 1 ∷ []) (11 ∷ 11 ∷ 11 ∷ 11 ∷ []) (fresh x4323 0 0 []) ≡ 1 ∷ 1 ∷ 1 ∷ 3 ∷ []
+  pub high : answersOf (0 ∷ 100000 ∷ 99999 ∷ 1 ∷ []) (11 ∷ 11 ∷ 11 ∷ 11 ∷ []) (fresh x4325 0 0 []) ≡ 3 ∷ 3 ∷ 3 ∷ 1 ∷ []
+
+-- A part that expects array data at a place, with WEL set (Bytes on the wire, array data).
+pub record Expects (place : ℕ) (d : Device) : Type 0 where
+  pub phase : d .talk .phase ≡ Data
+  pub latch : d .control .wel ≡ true
+  pub counter : d .counter ≡ at place
+
+-- A block code locks a place or not, and so its data byte is left without acknowledge or gets it (Bench cases, P2 to P4).
+pub record Locks (k : Kind) (code place : ℕ) (locked : Bool) : Type 0 where
+  pub extent : (stored : ℕ) → blockCode stored ≡ code → lockedOf k stored (at place) ≡ locked
+  pub answer : (select v : ℕ) (d : Device) → blockCode (d .control .stored) ≡ code → Expects place d
+      → byteOf k select d v .talk .own ≡ locked
+
+-- Code 4 locks 03Fh, not 040h (Bench cases, P2).
+pub record P2 (k : Kind) : Type 0 where
+  pub inside : Locks k 4 0x03F true
+  pub outside : Locks k 4 0x040 false
+
+-- Code 7 locks 1FFh, not 200h (Bench cases, P3).
+pub record P3 (k : Kind) : Type 0 where
+  pub inside : Locks k 7 0x1FF true
+  pub outside : Locks k 7 0x200 false
+
+-- Code 2 locks nothing (Bench cases, P4).
+abbrev pub P4 : Kind → Type 0
+P4 k = (place : ℕ) → Locks k 2 place false
+
+-- A part after moves from power-up, with select 0, stored byte 00h and an array all FFh (State and time, power-up).
+abbrev pub after : ℕ → List Move → Part
+after part ms =
+    runOf (timesOf ms) (levelsOf ms) (fresh part 0 0 (replicate (kindOf part .size) 0xFF))
+
+-- The answers of such a part, a byte for each sample (What goes in and what comes out).
+abbrev pub answers : ℕ → List Move → List ℕ
+answers part ms =
+    answersOf (timesOf ms) (levelsOf ms) (fresh part 0 0 (replicate (kindOf part .size) 0xFF))
+
+-- The answers from the last so many on.
+abbrev pub lastAnswers : ℕ → List ℕ → List ℕ
+lastAnswers n row = drop (length row - n) row
+
+-- Twelve bytes from page place 60 on, with WEL set before.
+abbrev pub twelve : List Move
+twelve = awake ++ ordered 2 ++ written 60 (1 ∷ 2 ∷ 3 ∷ 4 ∷ 5 ∷ 6 ∷ 7 ∷ 8 ∷ 9 ∷ 10 ∷ 11 ∷ 12 ∷ [])
+
+-- They fill 60 to 63 and 0 to 7, and the counter is at 8 (Bench cases, P5).
+pub record P5 (part : ℕ) : Type 0 where
+  pub page : take 64 (after part twelve .array)
+      ≡ (5 ∷ 6 ∷ 7 ∷ 8 ∷ 9 ∷ 10 ∷ 11 ∷ 12 ∷ []) ++ replicate 52 0xFF ++ (1 ∷ 2 ∷ 3 ∷ 4 ∷ [])
+  pub rest : drop 64 (after part twelve .array) ≡ replicate 4032 0xFF
+  pub counter : after part twelve .state .device .counter ≡ at 8
+
+-- The answers from a slave byte's eighth fall to its ninth, and the one after it.
+abbrev pub toSlave : ℕ → ℕ → List ℕ
+toSlave part v = lastAnswers 4 (answers part (awake ++ (start ∷ sent v ∷ [])))
+
+-- Select 0 answers A0h and A1h, not A2h or A8h: `low` is the answer byte with SDA low, `high` with SDA high (Bench cases, P6).
+pub record P6 (part low high : ℕ) : Type 0 where
+  pub writes : toSlave part 0xA0 ≡ low ∷ low ∷ low ∷ high ∷ []
+  pub reads : toSlave part 0xA1 ≡ low ∷ low ∷ low ∷ high ∷ []
+  pub select : toSlave part 0xA2 ≡ high ∷ high ∷ high ∷ high ∷ []
+  pub code : toSlave part 0xA8 ≡ high ∷ high ∷ high ∷ high ∷ []
+
+-- Three register bytes, each with its start and stop (Control register).
+abbrev pub three : ℕ → ℕ → ℕ → List Move
+three u v w = awake ++ ordered u ++ ordered v ++ ordered w
+
+-- The register chosen and read once the write time is over, its bits and the ninth one in the last 30 answers (Bytes on the wire, read).
+abbrev pub readsRegister : List Move
+readsRegister = wait writeTime ∷ readAt registerAddress
+
+-- The SDA bit of each answer in the middle of three, where SCL is high.
+abbrev pub clockedBits : List ℕ → List ℕ
+clockedBits (a ∷ b ∷ c ∷ row) = b % 2 ∷ clockedBits row
+clockedBits [] = []
+clockedBits (a ∷ []) = []
+clockedBits (a ∷ b ∷ []) = []
+
+-- 02h, 06h, 63h gives WD 11 and BP 100; the register then reads 63h, on the bus too (Bench cases, P7).
+pub record P7 (part : ℕ) : Type 0 where
+  pub watchdog : watchCode (after part (three 0x02 0x06 0x63) .state .device .control .stored) ≡ 3
+  pub block : blockCode (after part (three 0x02 0x06 0x63) .state .device .control .stored) ≡ 4
+  pub reads : readsOf (after part (three 0x02 0x06 0x63) .state .device .control) ≡ 0x63
+  pub bus : clockedBits (lastAnswers 30 (answers part (three 0x02 0x06 0x63 ++ readsRegister)))
+      ≡ 0 ∷ 1 ∷ 1 ∷ 0 ∷ 0 ∷ 0 ∷ 1 ∷ 1 ∷ 1 ∷ 1 ∷ []
+
+-- The control register with both latches set, nothing stored, nothing pending (Control register).
+abbrev pub latched : Control
+latched = record { stored = 0; wel = true; rwel = true; chosen = false; pending = false; value = 0 }
+
+-- 67h as third byte changes nothing: as after 02h and 06h, RWEL stays, and no write time runs (Bench cases, P8).
+pub record P8 (part : ℕ) : Type 0 where
+  pub before : after part (awake ++ ordered 0x02 ++ ordered 0x06) .state .device .control ≡ latched
+  pub same : after part (three 0x02 0x06 0x67) .state .device .control ≡ latched
+  pub time : after part (three 0x02 0x06 0x67) .state .timers .write ≡ 0
+
+-- The write time ends at 5,000, not at 4,999: `writing` is the answer byte while it runs, `done` after it (Bench cases, P9).
+abbrev pub P9 : ℕ → ℕ → ℕ → Type 0
+P9 part writing done =
+    lastAnswers 3 (answers part (awake ++ ordered 2 ++ written 0 (1 ∷ []) ++ (wait 4999 ∷ wait 1 ∷ []))) ≡ writing ∷ writing ∷ done ∷ []
+
+-- The bench cases in one list, each for both parts where a part is asked (Bench cases).
+pub record BenchCases : Type 0 where
+  pub p1 : P1
+  pub p2 : (k : Kind) → P2 k
+  pub p3 : (k : Kind) → P3 k
+  pub p4 : (k : Kind) → P4 k
+  pub p5 : P5 x4323 × P5 x4325
+  pub p6 : P6 x4323 2 3 × P6 x4325 0 1
+  pub p7 : P7 x4323 × P7 x4325
+  pub p8 : P8 x4323 × P8 x4325
+  pub p9 : P9 x4323 7 3 × P9 x4325 5 1
+  pub p10 : P10
+  pub p11 : P11
