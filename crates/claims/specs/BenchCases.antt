@@ -15,19 +15,15 @@ use Rattle.part.specs.declared.state.Control.{Control}
 use Rattle.part.specs.declared.state.Device.{Device}
 use Rattle.control.specs.Register.{readsOf}
 use Rattle.device.specs.Bytes.{byteOf}
-use Rattle.twin.specs.Power.{poweredUp}
 use Rattle.twin.specs.Run.{Part, runOf, answersOf}
 use Rattle.claims.specs.Cases.{P10, P11}
-use Rattle.claims.specs.Traffic.{Move, timesOf, levelsOf, wait, start, sent, awake, written, ordered, readAt}
-
--- A part just powered up, with an array (State and time, power-up).
-abbrev pub fresh : ℕ → ℕ → ℕ → List ℕ → Part
-fresh part select stored array = record { state = poweredUp part select stored; array = array }
+use Rattle.claims.specs.Reachable.{atPower}
+use Rattle.claims.specs.Traffic.{Capture, joined, wait, start, sent, awake, written, ordered, readAt}
 
 -- Reset is kept for 100,000 + 99,999 after the first good-VCC sample, and 1 more ends it: the pin's bit (Bench cases, P1).
 pub record P1 : Type 0 where
-  pub low : answersOf (0 ∷ 100000 ∷ 99999 ∷ 1 ∷ []) (11 ∷ 11 ∷ 11 ∷ 11 ∷ []) (fresh x4323 0 0 []) ≡ 1 ∷ 1 ∷ 1 ∷ 3 ∷ []
-  pub high : answersOf (0 ∷ 100000 ∷ 99999 ∷ 1 ∷ []) (11 ∷ 11 ∷ 11 ∷ 11 ∷ []) (fresh x4325 0 0 []) ≡ 3 ∷ 3 ∷ 3 ∷ 1 ∷ []
+  pub low : answersOf (0 ∷ 100000 ∷ 99999 ∷ 1 ∷ []) (11 ∷ 11 ∷ 11 ∷ 11 ∷ []) (atPower x4323 0 0 []) ≡ 1 ∷ 1 ∷ 1 ∷ 3 ∷ []
+  pub high : answersOf (0 ∷ 100000 ∷ 99999 ∷ 1 ∷ []) (11 ∷ 11 ∷ 11 ∷ 11 ∷ []) (atPower x4325 0 0 []) ≡ 3 ∷ 3 ∷ 3 ∷ 1 ∷ []
 
 -- A part that expects array data at a place, with WEL set (Bytes on the wire, array data).
 pub record Expects (place : ℕ) (d : Device) : Type 0 where
@@ -56,29 +52,29 @@ abbrev pub P4 : Kind → Type 0
 P4 k = (place : ℕ) → Locks k 2 place false
 
 -- A part after moves from power-up, with select 0, stored byte 00h and an array all FFh (State and time, power-up).
-abbrev pub after : ℕ → List Move → Part
-after part ms =
-    runOf (timesOf ms) (levelsOf ms) (fresh part 0 0 (replicate (kindOf part .size) 0xFF))
+abbrev pub partOf : ℕ → List Capture → Part
+partOf part ms =
+    runOf (joined ms .times) (joined ms .levels) (atPower part 0 0 (replicate (kindOf part .size) 0xFF))
 
 -- The answers of such a part, a byte for each sample (What goes in and what comes out).
-abbrev pub answers : ℕ → List Move → List ℕ
+abbrev pub answers : ℕ → List Capture → List ℕ
 answers part ms =
-    answersOf (timesOf ms) (levelsOf ms) (fresh part 0 0 (replicate (kindOf part .size) 0xFF))
+    answersOf (joined ms .times) (joined ms .levels) (atPower part 0 0 (replicate (kindOf part .size) 0xFF))
 
 -- The answers from the last so many on.
 abbrev pub lastAnswers : ℕ → List ℕ → List ℕ
 lastAnswers n row = drop (length row - n) row
 
 -- Twelve bytes from page place 60 on, with WEL set before.
-abbrev pub twelve : List Move
+abbrev pub twelve : List Capture
 twelve = awake ++ ordered 2 ++ written 60 (1 ∷ 2 ∷ 3 ∷ 4 ∷ 5 ∷ 6 ∷ 7 ∷ 8 ∷ 9 ∷ 10 ∷ 11 ∷ 12 ∷ [])
 
 -- They fill 60 to 63 and 0 to 7, and the counter is at 8 (Bench cases, P5).
 pub record P5 (part : ℕ) : Type 0 where
-  pub page : take 64 (after part twelve .array)
+  pub page : take 64 (partOf part twelve .array)
       ≡ (5 ∷ 6 ∷ 7 ∷ 8 ∷ 9 ∷ 10 ∷ 11 ∷ 12 ∷ []) ++ replicate 52 0xFF ++ (1 ∷ 2 ∷ 3 ∷ 4 ∷ [])
-  pub rest : drop 64 (after part twelve .array) ≡ replicate 4032 0xFF
-  pub counter : after part twelve .state .device .counter ≡ at 8
+  pub rest : drop 64 (partOf part twelve .array) ≡ replicate 4032 0xFF
+  pub counter : partOf part twelve .state .device .counter ≡ at 8
 
 -- The answers from a slave byte's eighth fall to its ninth, and the one after it.
 abbrev pub toSlave : ℕ → ℕ → List ℕ
@@ -92,11 +88,11 @@ pub record P6 (part low high : ℕ) : Type 0 where
   pub code : toSlave part 0xA8 ≡ high ∷ high ∷ high ∷ high ∷ []
 
 -- Three register bytes, each with its start and stop (Control register).
-abbrev pub three : ℕ → ℕ → ℕ → List Move
+abbrev pub three : ℕ → ℕ → ℕ → List Capture
 three u v w = awake ++ ordered u ++ ordered v ++ ordered w
 
 -- The register chosen and read once the write time is over, its bits and the ninth one in the last 30 answers (Bytes on the wire, read).
-abbrev pub readsRegister : List Move
+abbrev pub readsRegister : List Capture
 readsRegister = wait writeTime ∷ readAt registerAddress
 
 -- The SDA bit of each answer in the middle of three, where SCL is high.
@@ -108,9 +104,9 @@ clockedBits (a ∷ b ∷ []) = []
 
 -- 02h, 06h, 63h gives WD 11 and BP 100; the register then reads 63h, on the bus too (Bench cases, P7).
 pub record P7 (part : ℕ) : Type 0 where
-  pub watchdog : watchCode (after part (three 0x02 0x06 0x63) .state .device .control .stored) ≡ 3
-  pub block : blockCode (after part (three 0x02 0x06 0x63) .state .device .control .stored) ≡ 4
-  pub reads : readsOf (after part (three 0x02 0x06 0x63) .state .device .control) ≡ 0x63
+  pub watchdog : watchCode (partOf part (three 0x02 0x06 0x63) .state .device .control .stored) ≡ 3
+  pub block : blockCode (partOf part (three 0x02 0x06 0x63) .state .device .control .stored) ≡ 4
+  pub reads : readsOf (partOf part (three 0x02 0x06 0x63) .state .device .control) ≡ 0x63
   pub bus : clockedBits (lastAnswers 30 (answers part (three 0x02 0x06 0x63 ++ readsRegister)))
       ≡ 0 ∷ 1 ∷ 1 ∷ 0 ∷ 0 ∷ 0 ∷ 1 ∷ 1 ∷ 1 ∷ 1 ∷ []
 
@@ -120,9 +116,9 @@ latched = record { stored = 0; wel = true; rwel = true; chosen = false; pending 
 
 -- 67h as third byte changes nothing: as after 02h and 06h, RWEL stays, and no write time runs (Bench cases, P8).
 pub record P8 (part : ℕ) : Type 0 where
-  pub before : after part (awake ++ ordered 0x02 ++ ordered 0x06) .state .device .control ≡ latched
-  pub same : after part (three 0x02 0x06 0x67) .state .device .control ≡ latched
-  pub time : after part (three 0x02 0x06 0x67) .state .timers .write ≡ 0
+  pub before : partOf part (awake ++ ordered 0x02 ++ ordered 0x06) .state .device .control ≡ latched
+  pub same : partOf part (three 0x02 0x06 0x67) .state .device .control ≡ latched
+  pub time : partOf part (three 0x02 0x06 0x67) .state .timers .write ≡ 0
 
 -- The write time ends at 5,000, not at 4,999: `writing` is the answer byte while it runs, `done` after it (Bench cases, P9).
 abbrev pub P9 : ℕ → ℕ → ℕ → Type 0

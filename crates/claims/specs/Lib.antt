@@ -1,4 +1,12 @@
-pub mod RoundTrip
-pub mod Cases
-pub mod Traffic
 pub mod BenchCases
+pub mod Bent
+pub mod Cases
+pub mod Demand1
+pub mod Demand2
+pub mod Differ
+pub mod Occurs
+pub mod OneReply
+pub mod Reachable
+pub mod RoundTrip
+pub mod Sending
+pub mod Traffic

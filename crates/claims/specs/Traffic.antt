@@ -1,49 +1,48 @@
--- Captures made of what a host does on the bus, WP low and VCC good: the moves, and the two rows of samples that they make (document 01,
--- What goes in and what comes out; State and time, 4; Bytes on the wire).
+-- Captures made of what a host does on the bus, WP low and VCC good: a move is a short capture, and moves are joined
+-- (document 01, What goes in and what comes out; State and time, 4; Bytes on the wire).
 use Prim.Native.Nat.{ℕ, zero, suc, _+_, _/_, _%_, _^_}
 use mathlib.Core.Bool.{Bool, true, false}
 use mathlib.Core.List.{List, [], _∷_, _++_}
-use lib.ListN.{length, replicate}
+use lib.ListN.{length, drop, replicate}
 use Rattle.part.specs.Cases.{orZero, odd}
 use Rattle.part.specs.Numbers.{mostElapsed, mostBits, byteValues, registerAddress}
 
--- A move: its level bytes, and the time that passes before each of its samples (What goes in and what comes out).
-pub record Move : Type 0 where
+-- Two rows of equal length: elapsed times and level bytes (What goes in and what comes out).
+pub record Capture : Type 0 where
+  pub times : List ℕ
   pub levels : List ℕ
-  pub elapsed : ℕ
 
--- The row of level bytes (What goes in and what comes out).
-abbrev pub levelsOf : List Move → List ℕ
-levelsOf [] = []
-levelsOf (m ∷ ms) = m .levels ++ levelsOf ms
+-- Captures one after the other.
+abbrev pub joined : List Capture → Capture
+joined [] = record { times = []; levels = [] }
+joined (c ∷ cs) = record { times = c .times ++ joined cs .times; levels = c .levels ++ joined cs .levels }
 
--- The row of elapsed times (What goes in and what comes out).
-abbrev pub timesOf : List Move → List ℕ
-timesOf [] = []
-timesOf (m ∷ ms) = replicate (length (m .levels)) (m .elapsed) ++ timesOf ms
+-- What is left of a capture after so many samples.
+abbrev pub after : ℕ → Capture → Capture
+after n c = record { times = drop n (c .times); levels = drop n (c .levels) }
 
 -- The level byte of SCL and of SDA from outside, WP low and VCC good (What goes in and what comes out).
 abbrev pub levelOf : Bool → Bool → ℕ
 levelOf scl sda = 8 + orZero sda 2 + orZero scl 1
 
 -- Both lines high for so many microseconds (State and time, power-up: bus idle).
-abbrev pub wait : ℕ → Move
-wait e = record { levels = levelOf true true ∷ []; elapsed = e }
+abbrev pub wait : ℕ → Capture
+wait e = record { times = e ∷ []; levels = levelOf true true ∷ [] }
 
 -- Level bytes one microsecond apart.
-abbrev pub brisk : List ℕ → Move
-brisk ls = record { levels = ls; elapsed = 1 }
+abbrev pub brisk : List ℕ → Capture
+brisk ls = record { times = replicate (length ls) 1; levels = ls }
 
 -- A start: SDA falls while SCL is high, then SCL falls (State and time, 4).
-abbrev pub start : Move
+abbrev pub start : Capture
 start = brisk (levelOf true true ∷ levelOf true false ∷ levelOf false false ∷ [])
 
 -- A start within a transfer: SDA is let high first, while SCL is low (State and time, 4).
-abbrev pub again : Move
+abbrev pub again : Capture
 again = brisk (levelOf false true ∷ start .levels)
 
 -- A stop: SDA rises while SCL is high (State and time, 4).
-abbrev pub stop : Move
+abbrev pub stop : Capture
 stop = brisk (levelOf false false ∷ levelOf true false ∷ levelOf true true ∷ [])
 
 -- One bit: SCL low with the bit on SDA, SCL high, SCL low (State and time, 4).
@@ -56,34 +55,34 @@ clocks zero v = []
 clocks (suc n) v = clock (odd (v / 2 ^ n)) ++ clocks n v
 
 -- A byte out of the host; SDA is left high in the ninth clock, where the part may acknowledge (Bytes on the wire).
-abbrev pub sent : ℕ → Move
+abbrev pub sent : ℕ → Capture
 sent v = brisk (clocks mostBits v ++ clock true)
 
--- A byte out of the part, SDA left high; in the ninth clock it is high after the last one, else low (Bytes on the wire, read).
-abbrev pub heard : Bool → Move
-heard last = brisk (clocks mostBits 0xFF ++ clock last)
+-- A byte out of the part: SDA is left high, in the ninth clock only after the last byte (Bytes on the wire, read).
+abbrev pub read : Bool → Capture
+read last = brisk (clocks mostBits 0xFF ++ clock last)
 
 -- The first samples after power-up: VCC good, then the whole hold, so that reset ends (State and time, power-up and 1).
-abbrev pub awake : List Move
+abbrev pub awake : List Capture
 awake = wait 0 ∷ wait mostElapsed ∷ wait mostElapsed ∷ []
 
--- The first three bytes to a part of select 0: slave byte, address high, address low (Bytes on the wire, after a start and write).
-abbrev pub addressed : ℕ → List Move
+-- A start, then the slave byte of a write to select 0, address high and address low (Bytes on the wire, write).
+abbrev pub addressed : ℕ → List Capture
 addressed a = start ∷ sent 0xA0 ∷ sent (a / byteValues) ∷ sent (a % byteValues) ∷ []
 
 -- Bytes out of the host, one after the other (Bytes on the wire, array data).
-abbrev pub allSent : List ℕ → List Move
+abbrev pub allSent : List ℕ → List Capture
 allSent [] = []
 allSent (v ∷ vs) = sent v ∷ allSent vs
 
 -- Bytes written from an address on (Bytes on the wire, array data and stop).
-abbrev pub written : ℕ → List ℕ → List Move
+abbrev pub written : ℕ → List ℕ → List Capture
 written a vs = addressed a ++ allSent vs ++ stop ∷ []
 
 -- One byte to the control register (Control register, at a stop after one byte).
-abbrev pub ordered : ℕ → List Move
+abbrev pub ordered : ℕ → List Capture
 ordered v = written registerAddress (v ∷ [])
 
 -- One byte read from an address (Bytes on the wire, read).
-abbrev pub readAt : ℕ → List Move
-readAt a = addressed a ++ again ∷ sent 0xA1 ∷ heard true ∷ stop ∷ []
+abbrev pub readAt : ℕ → List Capture
+readAt a = addressed a ++ again ∷ sent 0xA1 ∷ read true ∷ stop ∷ []

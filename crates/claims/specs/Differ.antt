@@ -1,0 +1,152 @@
+-- Demand 3, in definitions: two parts in one state whose arrays differ at one address, given the same samples (document 01, demand 3;
+-- Bytes on the wire, read and stop).
+use Prim.Native.Nat.{ℕ, suc, _+_, _/_, _%_, _<_}
+use mathlib.Core.Bool.{Bool, true, false, not}
+use mathlib.Core.List.{List, [], _∷_}
+use mathlib.Core.Path.{_≡_}
+use lib.Dec.{eqb}
+use lib.ListN.{length, getD, take}
+use Rattle.part.specs.Numbers.{pageSize}
+use Rattle.part.specs.Cases.{both}
+use Rattle.part.specs.Page.{pageOf, at, inPage}
+use Rattle.part.specs.declared.state.State.{State}
+use Rattle.wire.specs.declared.Sign.{Sign}
+use Rattle.wire.specs.declared.Sign.the-variants.{Quiet, Start, Stop, Bit, Byte, Ninth}
+use Rattle.sample.specs.Sample.{opensOf, seenOf}
+use Rattle.twin.specs.Run.{Part, partStep, runOf, answersOf}
+use Rattle.claims.specs.Sending.{Sent, nothing, sends, sentOf, bitFrom}
+
+-- A sample of the row, counted from 0, or none of them.
+pub data When : Type 0 where
+  never : When
+  sample : ℕ → When
+
+-- The first sample at which a test holds: this one, or what the later ones say.
+abbrev pub firstBy : Bool → ℕ → When → When
+firstBy true i later = sample i
+firstBy false i later = later
+
+-- Two bits are equal.
+abbrev pub sameBit : Bool → Bool → Bool
+sameBit true b = b
+sameBit false b = not b
+
+-- Both parts send a byte fetched from the address, the same bit of it is out, and it is unequal (demand 3).
+abbrev pub reaches : ℕ → Sent → Sent → Bool
+reaches a nothing h = false
+reaches a (sends b v m) nothing = false
+reaches a (sends b v m) (sends c w n) =
+    both (both (eqb b a) (eqb c a)) (both (eqb m n) (not (sameBit (bitFrom m v) (bitFrom n w))))
+
+-- The first sample after which a sending of a byte fetched from the address has reached an unequal bit (demand 3).
+abbrev pub firstReach : ℕ → ℕ → List ℕ → List ℕ → Part → Part → Sent → Sent → When
+firstReach a i [] ls p q g h = never
+firstReach a i (e ∷ es) [] p q g h = never
+firstReach a i (e ∷ es) (l ∷ ls) p q g h =
+    firstBy
+    (reaches a (sentOf e l p g) (sentOf e l q h))
+    i
+    (firstReach a (i + 1) es ls (partStep e l p) (partStep e l q) (sentOf e l p g) (sentOf e l q h))
+
+-- The first sample at which two answer rows differ (What goes in and what comes out).
+abbrev pub firstDiff : ℕ → List ℕ → List ℕ → When
+firstDiff i [] ys = never
+firstDiff i (x ∷ xs) [] = never
+firstDiff i (x ∷ xs) (y ∷ ys) = firstBy (not (eqb x y)) i (firstDiff (i + 1) xs ys)
+
+-- Whether a byte that was fetched comes from the address (Bytes on the wire, read).
+abbrev pub fetchesAt : ℕ → Sent → Bool
+fetchesAt a nothing = false
+fetchesAt a (sends b v n) = eqb b a
+
+-- The address lies in the page that a stop writes, and its mark is set (Bytes on the wire, stop).
+abbrev pub coversBy : Bool → Sign → ℕ → State → Bool
+coversBy true sign a s = false
+coversBy false Quiet a s = false
+coversBy false Start a s = false
+coversBy false (Stop n) a s = both (eqb (pageOf (at a)) (pageOf (s .device .counter))) (getD (s .load .marks) (inPage (at a)) false)
+coversBy false Bit a s = false
+coversBy false (Byte v) a s = false
+coversBy false (Ninth b) a s = false
+
+-- A sample's write covers the address (Bytes on the wire, stop; demand 3).
+unfoldable pub covers : ℕ → ℕ → ℕ → Part → Bool
+covers a e level p =
+    coversBy (opensOf e level (p .state) .timers .reset) (seenOf level (opensOf e level (p .state))) a (p .state)
+
+-- A sample that fetches from the address before any that covers it, one that covers it, or what the later ones say (demand 3).
+abbrev pub coverBy : Bool → Bool → ℕ → When → When
+coverBy true c i later = never
+coverBy false true i later = sample i
+coverBy false false i later = later
+
+-- The first sample whose write covers the address, where none fetches from it before (demand 3).
+abbrev pub firstCover : ℕ → ℕ → List ℕ → List ℕ → Part → When
+firstCover a i [] ls p = never
+firstCover a i (e ∷ es) [] p = never
+firstCover a i (e ∷ es) (l ∷ ls) p =
+    coverBy (fetchesAt a (sentOf e l p nothing)) (covers a e l p) i (firstCover a (i + 1) es ls (partStep e l p))
+
+-- Two arrays of one length that are equal but for one address (demand 3).
+pub record EqualBut (a : ℕ) (xs ys : List ℕ) : Type 0 where
+  pub lengths : length xs ≡ length ys
+  pub others : (i : ℕ) → (i ≡ a → ⊥) → getD xs i 0 ≡ getD ys i 0
+
+-- A page load of 64 bytes with 64 loaded marks (State and time, the page load).
+pub record FullLoad (s : State) : Type 0 where
+  pub bytes : length (s .load .bytes) ≡ pageSize
+  pub marks : length (s .load .marks) ≡ pageSize
+
+-- A state without the byte being sent.
+abbrev pub silenced : State → State
+silenced s =
+    record {
+      part = s .part;
+      select = s .select;
+      timers = s .timers;
+      wire = s .wire;
+      device =
+          record {
+            talk = record { phase = s .device .talk .phase; high = s .device .talk .high; out = 0; own = s .device .talk .own };
+            counter = s .device .counter;
+            control = s .device .control;
+          };
+      load = s .load;
+    }
+
+-- What is being sent is no byte fetched from the address, so that two such states are equal (demand 3).
+abbrev pub elsewhere : ℕ → Sent → Bool
+elsewhere a nothing = true
+elsewhere a (sends b v n) = not (eqb b a)
+
+-- What is being sent after the rows.
+abbrev pub sentAfter : List ℕ → List ℕ → Part → Sent → Sent
+sentAfter [] ls p g = g
+sentAfter (e ∷ es) [] p g = g
+sentAfter (e ∷ es) (l ∷ ls) p g = sentAfter es ls (partStep e l p) (sentOf e l p g)
+
+-- Two answer rows that are equal before a sample, and differ at it in the SDA bit alone (What goes in and what comes out).
+pub record SplitAt (k : ℕ) (xs ys : List ℕ) : Type 0 where
+  pub before : (i : ℕ) → i < k → getD xs i 0 ≡ getD ys i 0
+  pub others : getD xs k 0 / 2 ≡ getD ys k 0 / 2
+  pub line : getD xs k 0 % 2 ≡ getD ys k 0 % 2 → ⊥
+
+-- Two parts after rows in which no unequal bit was reached: answers alike, states alike but for a byte of the address being sent.
+pub record Alike (a : ℕ) (es ls : List ℕ) (p q : Part) : Type 0 where
+  pub answers : answersOf es ls p ≡ answersOf es ls q
+  pub states : silenced (runOf es ls p .state) ≡ silenced (runOf es ls q .state)
+  pub equal : elsewhere a (sentAfter es ls p nothing) ≡ true → runOf es ls p .state ≡ runOf es ls q .state
+  pub arrays : EqualBut a (runOf es ls p .array) (runOf es ls q .array)
+
+-- Two parts that a covering write made equal: state and array right after that sample, and all answers (demand 3).
+pub record Covered (k : ℕ) (es ls : List ℕ) (p q : Part) : Type 0 where
+  pub parts : runOf (take (suc k) es) (take (suc k) ls) p ≡ runOf (take (suc k) es) (take (suc k) ls) q
+  pub after : runOf es ls p ≡ runOf es ls q
+  pub answers : answersOf es ls p ≡ answersOf es ls q
+
+-- Demand 3 of two parts in one state, arrays equal but for the address a, and the same rows.
+pub record Demand3 (a : ℕ) (es ls : List ℕ) (p q : Part) : Type 0 where
+  pub first : firstDiff 0 (answersOf es ls p) (answersOf es ls q) ≡ firstReach a 0 es ls p q nothing nothing
+  pub reached : (k : ℕ) → firstReach a 0 es ls p q nothing nothing ≡ sample k → SplitAt k (answersOf es ls p) (answersOf es ls q)
+  pub unreached : firstReach a 0 es ls p q nothing nothing ≡ never → Alike a es ls p q
+  pub covered : (k : ℕ) → firstCover a 0 es ls p ≡ sample k → Covered k es ls p q

@@ -1,0 +1,105 @@
+-- Demand 3 is not empty: runs that reach an unequal bit, that are covered before, and that do neither; and for each of three
+-- bent steps a run for which demand 3 fails. Two X4323 of select 0, whose arrays of 4,096 bytes differ at one address in one
+-- bit (document 01, demand 3).
+use Prim.Native.Nat.{ℕ}
+use mathlib.Core.Bool.{Bool, true, false}
+use mathlib.Core.List.{List, [], _∷_, _++_}
+use mathlib.Core.Path.{_≡_}
+use lib.ListN.{length, take, set, replicate}
+use Rattle.part.specs.Numbers.{x4323, smallSize, writeTime}
+use Rattle.twin.specs.Run.{Part, partStep, runOf, answersOf}
+use Rattle.twin.specs.Power.{poweredUp}
+use Rattle.claims.specs.Sending.{nothing}
+use Rattle.claims.specs.Differ.{When, never, sample, EqualBut, firstReach, firstDiff, firstCover}
+use Rattle.claims.specs.Traffic.{Capture, joined, after, wait, awake, written, ordered, readAt}
+use Rattle.claims.specs.Bent.{Step, diffUnder, holdsFor, lowestFirst, readsAnew, keepsWithheld}
+
+-- The address at which the arrays differ.
+abbrev pub spot : ℕ
+spot = 0x0345
+
+-- A part at power-up with a stored control byte, its array all FFh but for the address (State and time, power-up).
+abbrev pub holding : ℕ → ℕ → Part
+holding stored v = record { state = poweredUp x4323 0 stored; array = set (replicate smallSize 0xFF) spot v }
+
+-- One part holds 0100 1100 at the address, nothing is locked.
+abbrev pub left : Part
+left = holding 0x00 0x4C
+
+-- The other holds 0101 1100: the fourth bit is unequal.
+abbrev pub right : Part
+right = holding 0x00 0x5C
+
+-- The one with everything locked, BP code 3 (Control register).
+abbrev pub lockedLeft : Part
+lockedLeft = holding 0x18 0x4C
+
+-- The other with everything locked.
+abbrev pub lockedRight : Part
+lockedRight = holding 0x18 0x5C
+
+-- The address is read (Bytes on the wire, read).
+abbrev pub readIt : Capture
+readIt = joined (awake ++ readAt spot)
+
+-- Another address is read (Bytes on the wire, read).
+abbrev pub readOther : Capture
+readOther = joined (awake ++ readAt 0x0346)
+
+-- A byte is sent to the address, and after the write time the address is read (Bytes on the wire, array data, stop, read).
+abbrev pub writeAndRead : List Capture
+writeAndRead = written spot (0x77 ∷ []) ++ wait writeTime ∷ readAt spot
+
+-- That with WEL low, so that the byte is withheld (Bytes on the wire, array data).
+abbrev pub unsetWrite : Capture
+unsetWrite = joined (awake ++ writeAndRead)
+
+-- That with WEL set (Control register, RWEL low).
+abbrev pub setWrite : Capture
+setWrite = joined (awake ++ ordered 0x02 ++ writeAndRead)
+
+-- So many samples into the read, its byte has been fetched and its second bit is out.
+abbrev pub partWay : ℕ
+partWay = 121
+
+-- The state there over the array of a part: the byte being sent was fetched before (State and time, a byte being sent).
+abbrev pub midway : Part → Part
+midway p =
+    record { state = runOf (take partWay (readIt .times)) (take partWay (readIt .levels)) left .state; array = p .array }
+
+-- Demand 3 of a step, two parts and a capture, computed (demand 3).
+abbrev pub holds : Step → Part → Part → Capture → Bool
+holds step p q c = holdsFor step spot (c .times) (c .levels) p q
+
+-- Under the sheet's rules: where a bit is reached and the answers differ, where the address is covered; demand 3 holds.
+pub record Comes (p q : Part) (c : Capture) (reach cover : When) : Type 0 where
+  pub reached : firstReach spot 0 (c .times) (c .levels) p q nothing nothing ≡ reach
+  pub differ : firstDiff 0 (answersOf (c .times) (c .levels) p) (answersOf (c .times) (c .levels) q) ≡ reach
+  pub covered : firstCover spot 0 (c .times) (c .levels) p ≡ cover
+  pub demanded : holds partStep p q c ≡ true
+
+-- Under a bent step: where the answers differ; demand 3 fails.
+pub record Breaks (step : Step) (p q : Part) (c : Capture) (first : When) : Type 0 where
+  pub differ : diffUnder step (c .times) (c .levels) p q ≡ first
+  pub fails : holds step p q c ≡ false
+
+-- The runs, all computed (demand 3).
+pub record Occurs : Type 0 where
+  -- the arrays are as demand 3 asks
+  pub arrays : EqualBut spot (left .array) (right .array)
+  pub size : length (left .array) ≡ smallSize
+  -- under the sheet's rules
+  pub read : Comes left right readIt (sample 126) never
+  pub other : Comes left right readOther never never
+  pub write : Comes left right setWrite never (sample 230)
+  pub unset : Comes left right unsetWrite (sample 241) never
+  pub locked : Comes lockedLeft lockedRight setWrite (sample 355) never
+  pub before : Comes (midway left) (midway right) (after partWay readIt) never never
+  -- under the bent steps, and for each a run that it leaves as it is
+  pub lowest : Breaks lowestFirst left right readIt (sample 129)
+  pub lowest-spares : holds lowestFirst left right setWrite ≡ true
+  pub anew : Breaks readsAnew (midway left) (midway right) (after partWay readIt) (sample 5)
+  pub anew-spares : holds readsAnew left right readIt ≡ true
+  pub kept-unset : Breaks keepsWithheld left right unsetWrite never
+  pub kept-locked : Breaks keepsWithheld lockedLeft lockedRight setWrite never
+  pub kept-spares : holds keepsWithheld left right readIt ≡ true

@@ -1,0 +1,27 @@
+-- There is only one possible reply (document 01, Leaving no slack). For each public operation and every input, two
+-- outcomes that both keep what the operation promises are one and the same: in the reply, in the state beside it, and
+-- in every lent row, array and buffer. So a promise leaves no freedom in which a wrong twin could hide.
+use Prim.Native.Nat.{ℕ}
+use mathlib.Core.List.{List}
+use mathlib.Core.Path.{_≡_}
+use Rattle.part.specs.declared.state.State.{State}
+use Rattle.refusals.specs.declared.Reply.{Reply}
+use Rattle.twin.specs.declared.replays.Replayed.{Replayed}
+use Rattle.twin.specs.Promises.{PowersUp, Replays, ReadsRegister, SizesPart}
+use Rattle.image.specs.Promises.{ReadsImage, WritesImage}
+use Rattle.tidying.specs.Shown.{shownOf, Starts}
+
+-- Two outcomes that both keep a promise are one (Leaving no slack, only one possible reply).
+abbrev pub OnlyOne : {A : Type 0} → (A → Type 0) → Type 0
+OnlyOne {A} keeps = (x y : A) → keeps x → keeps y → x ≡ y
+
+-- One outcome for each public operation, whatever goes in (Leaving no slack, each public operation).
+pub record OneReply : Type 0 where
+  pub power-up : (part select stored : ℕ) → OnlyOne (PowersUp part select stored)
+  pub replay : (s : State) (es ls array row : List ℕ)
+      → OnlyOne (λ ((r, array′, row′) : Replayed × List ℕ × List ℕ). Replays s es ls array row r array′ row′)
+  pub register : (s : State) → OnlyOne (ReadsRegister s)
+  pub size : (part : ℕ) → OnlyOne (SizesPart part)
+  pub read-image : (text array : List ℕ) → OnlyOne (λ ((r, array′) : Reply × List ℕ). ReadsImage text array r array′)
+  pub write-image : (array out : List ℕ) → OnlyOne (λ ((r, out′) : Reply × List ℕ). WritesImage array out r out′)
+  pub tidy : (text out : List ℕ) → OnlyOne (λ ((r, out′) : ℕ × List ℕ). Starts (shownOf text) out r out′)

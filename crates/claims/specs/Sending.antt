@@ -1,0 +1,69 @@
+-- What is being sent, beside a run: the byte that was fetched within the given samples, and which bit of it is out
+-- (document 01, Bytes on the wire, read; State and time; demand 3).
+use Prim.Native.Nat.{ℕ, _+_, _-_, _/_, _^_}
+use mathlib.Core.Bool.{Bool, true, false, not}
+use mathlib.Core.List.{List}
+use Rattle.part.specs.Cases.{both, odd}
+use Rattle.part.specs.Page.{byteAt}
+use Rattle.part.specs.declared.state.Phase.{Phase}
+use Rattle.part.specs.declared.state.Phase.the-variants.{Idle, Silent, Slave, High, Low, Data, Register, Send, SendRegister}
+use Rattle.part.specs.declared.state.Device.{Device}
+use Rattle.wire.specs.declared.Sign.{Sign}
+use Rattle.wire.specs.declared.Sign.the-variants.{Quiet, Start, Stop, Bit, Byte, Ninth}
+use Rattle.sample.specs.Sample.{opensOf, seenOf}
+use Rattle.twin.specs.Run.{Part}
+
+-- Nothing fetched within the samples is being sent, or a byte: the address it was fetched from, its value, the bit that is out.
+pub data Sent : Type 0 where
+  nothing : Sent
+  sends : ℕ → ℕ → ℕ → Sent
+
+-- The part sends array bytes (Bytes on the wire, read).
+abbrev pub sendsArray : Phase → Bool
+sendsArray Idle = false
+sendsArray Silent = false
+sendsArray Slave = false
+sendsArray High = false
+sendsArray Low = false
+sendsArray Data = false
+sendsArray Register = false
+sendsArray Send = true
+sendsArray SendRegister = false
+
+-- A ninth fall with a low ninth bit fetches the array byte at the counter, its highest bit out (Bytes on the wire, read).
+abbrev pub fetchedBy : Bool → List ℕ → Device → Sent
+fetchedBy true array d = sends (d .counter .0) (byteAt array (d .counter)) 0
+fetchedBy false array d = nothing
+
+-- One bit per fall (Bytes on the wire, read).
+abbrev pub nextSent : Sent → Sent
+nextSent nothing = nothing
+nextSent (sends a b n) = sends a b (n + 1)
+
+-- What each sign does to the sending: a fall puts the next bit out, the eighth ends it, so do a start and a stop (Bytes on the wire).
+abbrev pub sentBy : Sign → List ℕ → Device → Sent → Sent
+sentBy Quiet array d g = g
+sentBy Start array d g = nothing
+sentBy (Stop n) array d g = nothing
+sentBy Bit array d g = nextSent g
+sentBy (Byte v) array d g = nothing
+sentBy (Ninth b) array d g = fetchedBy (both (sendsArray (d .talk .phase)) (not b)) array d
+
+-- While reset is active talk ends (State and time, 3).
+abbrev pub heardSent : Bool → Sign → List ℕ → Device → Sent → Sent
+heardSent true sign array d g = nothing
+heardSent false sign array d g = sentBy sign array d g
+
+-- What is being sent after a sample, given what was before it (State and time, each sample).
+unfoldable pub sentOf : ℕ → ℕ → Part → Sent → Sent
+sentOf e level p g =
+    heardSent
+    (opensOf e level (p .state) .timers .reset)
+    (seenOf level (opensOf e level (p .state)))
+    (p .array)
+    (p .state .device)
+    g
+
+-- Bit n of a byte, counted from the highest (Bytes on the wire, read: the highest bit goes out, one bit per fall).
+abbrev pub bitFrom : ℕ → ℕ → Bool
+bitFrom n b = odd (b / 2 ^ (7 - n))
