@@ -6,6 +6,7 @@ use Rattle.part.specs.Timers.{loadedOf, timedOf, suppliedOf}
 use Rattle.part.specs.Lock.{extentOf, lockedOf}
 use Rattle.part.specs.Page.{storeOf}
 use Rattle.wire.specs.Sign.{fallSign, fallFrame, signOf, wireOf}
+use Rattle.refusals.specs.Refusals.{inRange, judgedOf}
 use Rattle.control.specs.Register.{orderOf, carriedOut}
 use Rattle.device.specs.Bytes.{slaveOf, highOf, lowOf, takenOf, byteOf, keptOf, bitOf, ninthOf}
 use Rattle.device.specs.Ends.{startedOf, stoppedOf, endedOf}
@@ -14,29 +15,35 @@ use Rattle.sample.specs.Sample.{opensOf, resetOf, startOf, stopOf, byteStep, se
 use Rattle.twin.specs.Run.{partStep}
 use Rattle.twin.specs.Power.{poweredUp}
 use Rattle.claims.specs.BenchCases.{BenchCases}
-use Rattle.claims.proofs.LockCases.{p2, p3, p4}
-use Rattle.claims.proofs.ImageCases.{p10, p11}
+use Rattle.claims.proofs.Listed.LockCases.{p2, p3, p4}
+use Rattle.claims.proofs.Listed.ImageCases.{p10, p11}
 
 -- Each capture is computed, with every rule opened; the lock's cases and the images' are shown beside.
 pub bench-cases : BenchCases
-unfolding kindOf extentOf lockedOf storeOf loadedOf timedOf suppliedOf fallSign fallFrame signOf wireOf orderOf carriedOut slaveOf highOf lowOf takenOf byteOf keptOf bitOf ninthOf startedOf stoppedOf endedOf answerOf opensOf resetOf startOf stopOf byteStep seenOf wiredOf stepOf arrayOf partStep poweredUp
+unfolding inRange judgedOf kindOf extentOf lockedOf storeOf loadedOf timedOf suppliedOf fallSign fallFrame signOf wireOf orderOf carriedOut slaveOf highOf lowOf takenOf byteOf keptOf bitOf ninthOf startedOf stoppedOf endedOf answerOf opensOf resetOf startOf stopOf byteStep seenOf wiredOf stepOf arrayOf partStep poweredUp
 bench-cases =
     record {
-      p1 = record { low = refl; high = refl };
+      p1 = record { taken = (refl, refl); low = refl; high = refl };
       p2 = p2;
       p3 = p3;
       p4 = p4;
-      p5 = (record { page = refl; rest = refl; counter = refl }, record { page = refl; rest = refl; counter = refl });
+      p5 = (
+        record { taken = refl; page = refl; counter = refl; next = refl; steps = refl },
+        record { taken = refl; page = refl; counter = refl; next = refl; steps = refl },
+      );
       p6 = (
-        record { writes = refl; reads = refl; select = refl; code = refl },
-        record { writes = refl; reads = refl; select = refl; code = refl },
+        record { taken = refl; writes = refl; reads = refl; select = refl; code = refl },
+        record { taken = refl; writes = refl; reads = refl; select = refl; code = refl },
       );
       p7 = (
-        record { watchdog = refl; block = refl; reads = refl; bus = refl },
-        record { watchdog = refl; block = refl; reads = refl; bus = refl },
+        record { watchdog = refl; block = refl; reads = refl; taken = refl; bus = refl },
+        record { watchdog = refl; block = refl; reads = refl; taken = refl; bus = refl },
       );
-      p8 = (record { before = refl; same = refl; time = refl }, record { before = refl; same = refl; time = refl });
-      p9 = (refl, refl);
+      p8 = (
+        record { taken = refl; before = refl; same = refl; time = refl },
+        record { taken = refl; before = refl; same = refl; time = refl },
+      );
+      p9 = (record { taken = refl; last = refl }, record { taken = refl; last = refl });
       p10 = p10;
       p11 = p11;
     }

@@ -4,31 +4,23 @@
 use Prim.Native.Nat.{ℕ}
 use mathlib.Core.List.{List}
 use mathlib.Core.Path.{_≡_, refl, sym, _∙_}
-use lib.ListN.{length}
-use Rattle.refusals.specs.Refusals.{refused, judgedOf, powerOf}
+use Rattle.refusals.specs.Refusals.{refused}
 use Rattle.refusals.proofs.Laws.{apart}
 use Rattle.image.specs.Reading.{Reading, taken, bad}
-use Rattle.image.specs.Promises.{verdictOf, arrayAfter, imageOf, writeVerdict}
+use Rattle.image.specs.Promises.{verdictOf, arrayAfter}
+use Rattle.tidying.specs.Shown.{shownOf}
 use Rattle.claims.specs.Demand1.{Demand1}
-
--- A reading that is answered by a refusal leaves the array.
-refused-leaves : (g : Reading) (n k p : ℕ) (array : List ℕ) → verdictOf g n ≡ refused k p → arrayAfter g array ≡ array
-refused-leaves (taken found) n k p array e = absurd (apart k p n (sym e))
-refused-leaves (bad j q) n k p array e = refl
 
 -- The claim: what each operation leaves where it refuses.
 pub demand-1 : Demand1
+unfolding shownOf
 demand-1 =
     record {
-      power-up = λ part select stored r k p x e.
-          let v : powerOf part select stored ≡ refused k p = cc in
-          x .state ∙ (rw v);
-      replay = λ s es ls array row r array′ row′ k p x e.
-          let v : judgedOf s es ls array row ≡ refused k p = cc in
-          (x .state ∙ (rw v), x .kept ∙ (rw v), x .said ∙ (rw v));
-      read-image = λ text array r array′ k p x e.
-          x .kept ∙ refused-leaves (imageOf text array) (length text) k p array (cc);
-      write-image = λ array out r out′ k p x e.
-          let v : writeVerdict array out ≡ refused k p = cc in
-          x .said ∙ (rw v);
+      power-up = λ part select stored r k p x v. (x .reply ∙ v, x .state ∙ rw v);
+      replay = λ s es ls array row r array′ row′ k p x v.
+          (x .reply ∙ v, x .state ∙ rw v, x .kept ∙ rw v, x .said ∙ rw v);
+      read-image = λ text array r array′ k p x v. (x .reply ∙ rw v, x .kept ∙ rw v);
+      write-image = λ array out r out′ k p x v. (x .reply ∙ v, x .said ∙ rw v);
+      tidy = λ text out r out′ k p x v. x .shown ∙ rw v;
+      only = λ s es ls array row r array′ row′ k p x e. sym (x .reply) ∙ e;
     }

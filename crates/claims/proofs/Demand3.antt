@@ -17,9 +17,9 @@ use Rattle.twin.specs.Run.{Part, partStep, runOf, answersOf}
 use Rattle.claims.specs.Sending.{Sent, nothing, sends, sentOf}
 use Rattle.claims.specs.Differ.{never, sample, reaches, firstReach, firstDiff, fetchesAt, covers, firstCover}
 use Rattle.claims.specs.Differ.{EqualBut, FullLoad, elsewhere, sentAfter, SplitAt, Alike, Covered, Demand3}
-use Rattle.claims.proofs.TwoArrays.{arrays-kept, arrays-equal, array-silent, whole-kept}
-use Rattle.claims.proofs.OneSample.{partOf, Beside, equal}
-use Rattle.claims.proofs.Reached.{beside-answers, beside-line, beside-silenced, beside-equal, beside-step}
+use Rattle.claims.proofs.Sent.TwoArrays.{arrays-kept, arrays-equal, array-silent, whole-kept}
+use Rattle.claims.proofs.Sent.OneSample.{partOf, Beside, equal}
+use Rattle.claims.proofs.Sent.Reached.{beside-answers, beside-line, beside-silenced, beside-equal, beside-step}
 
 -- Two parts beside each other, with what each sends: their states are, and their arrays are equal but for the address.
 record Near (a : ℕ) (p q : Part) (g h : Sent) : Type 0 where

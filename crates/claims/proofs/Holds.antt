@@ -30,7 +30,7 @@ use Rattle.sample.specs.Sample.{opensOf, resetOf, startOf, stopOf, byteStep, he
 use Rattle.sample.specs.Sample.{goesOnBy, stepOf}
 use Rattle.twin.specs.Run.{Part, partStep}
 use Rattle.claims.specs.Reachable.{Reachable, Holds}
-use Rattle.claims.proofs.Steps.{Sits, low-line}
+use Rattle.claims.proofs.Kept.Steps.{Sits, low-line}
 use Rattle.claims.proofs.Reachable.{Stands, reachable-stands}
 
 -- The two signs that begin and end a talk.

@@ -20,9 +20,9 @@ use Rattle.sample.proofs.Sampled.{array-length}
 use Rattle.twin.specs.Run.{Part, partStep, runOf}
 use Rattle.twin.specs.Power.{poweredUp}
 use Rattle.claims.specs.Reachable.{atPower, Reachable, speaks, sendsNow, Lowers, acknowledges, sendsZero, Keeps}
-use Rattle.claims.proofs.Talks.{Voice, rests, answers, sends, fresh}
-use Rattle.claims.proofs.Ranges.{in-range}
-use Rattle.claims.proofs.Steps.{Sits, step-sits, step-part}
+use Rattle.claims.proofs.Kept.Talks.{Voice, rests, answers, sends, fresh}
+use Rattle.claims.proofs.Kept.Ranges.{in-range}
+use Rattle.claims.proofs.Kept.Steps.{Sits, step-sits, step-part}
 
 -- An accepted power-up has passed the tests of refusals 1 to 3.
 power-passed : (a b c : Bool) → powerBy a b c ≡ accepted 0 → (a ≡ true) × (b ≡ true) × (c ≡ true)

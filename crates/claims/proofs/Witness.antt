@@ -46,6 +46,8 @@ occurs =
       unset = record { reached = refl; differ = refl; covered = refl; demanded = refl };
       locked = record { reached = refl; differ = refl; covered = refl; demanded = refl };
       before = record { reached = refl; differ = refl; covered = refl; demanded = refl };
+      cut = record { reached = refl; differ = refl; covered = refl; demanded = refl };
+      held = (refl, refl);
       lowest = record { differ = refl; fails = refl };
       lowest-spares = refl;
       anew = record { differ = refl; fails = refl };

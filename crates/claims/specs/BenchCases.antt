@@ -1,4 +1,4 @@
--- The bench cases P1 to P9, and all eleven in one list (document 01, Bench cases); P10 and P11 are in ImageCases.
+-- The bench cases P1 to P9, and all eleven in one list (document 01, Bench cases); those of images stand in ImageCases.
 use Prim.Native.Nat.{ℕ, _-_, _%_}
 use mathlib.Core.Bool.{Bool, true, false}
 use mathlib.Core.List.{List, [], _∷_, _++_}
@@ -13,17 +13,14 @@ use Rattle.part.specs.declared.kinds.Kind.{Kind}
 use Rattle.part.specs.declared.state.Phase.the-variants.{Data}
 use Rattle.part.specs.declared.state.Control.{Control}
 use Rattle.part.specs.declared.state.Device.{Device}
+use Rattle.refusals.specs.Refusals.{accepted, judgedOf}
 use Rattle.control.specs.Register.{readsOf}
 use Rattle.device.specs.Bytes.{byteOf}
+use Rattle.twin.specs.Power.{poweredUp}
 use Rattle.twin.specs.Run.{Part, runOf, answersOf}
-use Rattle.claims.specs.Cases.{P10, P11}
+use Rattle.claims.specs.ImageCases.{P10, P11}
 use Rattle.claims.specs.Reachable.{atPower}
 use Rattle.claims.specs.Traffic.{Capture, joined, wait, start, sent, awake, written, ordered, readAt}
-
--- Reset is kept for 100,000 + 99,999 after the first good-VCC sample, and 1 more ends it: the pin's bit (Bench cases, P1).
-pub record P1 : Type 0 where
-  pub low : answersOf (0 ∷ 100000 ∷ 99999 ∷ 1 ∷ []) (11 ∷ 11 ∷ 11 ∷ 11 ∷ []) (atPower x4323 0 0 []) ≡ 1 ∷ 1 ∷ 1 ∷ 3 ∷ []
-  pub high : answersOf (0 ∷ 100000 ∷ 99999 ∷ 1 ∷ []) (11 ∷ 11 ∷ 11 ∷ 11 ∷ []) (atPower x4325 0 0 []) ≡ 3 ∷ 3 ∷ 3 ∷ 1 ∷ []
 
 -- A part that expects array data at a place, with WEL set (Bytes on the wire, array data).
 pub record Expects (place : ℕ) (d : Device) : Type 0 where
@@ -61,27 +58,54 @@ abbrev pub answers : ℕ → List Capture → List ℕ
 answers part ms =
     answersOf (joined ms .times) (joined ms .levels) (atPower part 0 0 (replicate (kindOf part .size) 0xFF))
 
--- The answers from the last so many on.
+-- The replay of such moves is accepted, with as many samples as there are (Refusal numbers, 4 to 10).
+abbrev pub Accepted : ℕ → List Capture → Type 0
+Accepted part ms =
+    judgedOf
+    (poweredUp part 0 0)
+    (joined ms .times)
+    (joined ms .levels)
+    (replicate (kindOf part .size) 0xFF)
+    (replicate (length (joined ms .levels)) 0)
+    ≡ accepted (length (joined ms .levels))
+
+-- Four samples of good VCC: the first, then 100,000 + 99,999, then 1 (State and time, 1 and 2).
+abbrev pub holds : List Capture
+holds = wait 100000 ∷ wait 100000 ∷ wait 99999 ∷ wait 1 ∷ []
+
+-- After the first good-VCC sample 100,000 + 99,999 keeps reset, and 1 more ends it: the bit of the RESET pin (Bench cases, P1).
+pub record P1 : Type 0 where
+  pub taken : Accepted x4323 holds × Accepted x4325 holds
+  pub low : answers x4323 holds ≡ 1 ∷ 1 ∷ 1 ∷ 3 ∷ []
+  pub high : answers x4325 holds ≡ 3 ∷ 3 ∷ 3 ∷ 1 ∷ []
+
+-- The last so many answers of a row.
 abbrev pub lastAnswers : ℕ → List ℕ → List ℕ
 lastAnswers n row = drop (length row - n) row
 
--- Twelve bytes from page place 60 on, with WEL set before.
-abbrev pub twelve : List Capture
-twelve = awake ++ ordered 2 ++ written 60 (1 ∷ 2 ∷ 3 ∷ 4 ∷ 5 ∷ 6 ∷ 7 ∷ 8 ∷ 9 ∷ 10 ∷ 11 ∷ 12 ∷ [])
+-- Twelve bytes from an address on, with WEL set before (Bytes on the wire, array data).
+abbrev pub twelve : ℕ → List Capture
+twelve address = awake ++ ordered 2 ++ written address (1 ∷ 2 ∷ 3 ∷ 4 ∷ 5 ∷ 6 ∷ 7 ∷ 8 ∷ 9 ∷ 10 ∷ 11 ∷ 12 ∷ [])
 
--- They fill 60 to 63 and 0 to 7, and the counter is at 8 (Bench cases, P5).
+-- A page that they fill from its place 60 on, the last four of it first (Bench cases, P5).
+abbrev pub wrapped : List ℕ
+wrapped = (5 ∷ 6 ∷ 7 ∷ 8 ∷ 9 ∷ 10 ∷ 11 ∷ 12 ∷ []) ++ replicate 52 0xFF ++ (1 ∷ 2 ∷ 3 ∷ 4 ∷ [])
+
+-- They fill 60 to 63 and 0 to 7, and the counter is at 8; in the next page it is the same (Bench cases, P5).
 pub record P5 (part : ℕ) : Type 0 where
-  pub page : take 64 (partOf part twelve .array)
-      ≡ (5 ∷ 6 ∷ 7 ∷ 8 ∷ 9 ∷ 10 ∷ 11 ∷ 12 ∷ []) ++ replicate 52 0xFF ++ (1 ∷ 2 ∷ 3 ∷ 4 ∷ [])
-  pub rest : drop 64 (partOf part twelve .array) ≡ replicate 4032 0xFF
-  pub counter : partOf part twelve .state .device .counter ≡ at 8
+  pub taken : Accepted part (twelve 0x03C)
+  pub page : partOf part (twelve 0x03C) .array ≡ wrapped ++ replicate 4032 0xFF
+  pub counter : partOf part (twelve 0x03C) .state .device .counter ≡ at 8
+  pub next : partOf part (twelve 0x07C) .array ≡ replicate 64 0xFF ++ wrapped ++ replicate 3968 0xFF
+  pub steps : partOf part (twelve 0x07C) .state .device .counter ≡ at 0x048
 
--- The answers from a slave byte's eighth fall to its ninth, and the one after it.
+-- The last four answers to a slave byte: from its eighth fall to its ninth, which releases SDA (Bytes on the wire, after a start).
 abbrev pub toSlave : ℕ → ℕ → List ℕ
 toSlave part v = lastAnswers 4 (answers part (awake ++ (start ∷ sent v ∷ [])))
 
 -- Select 0 answers A0h and A1h, not A2h or A8h: `low` is the answer byte with SDA low, `high` with SDA high (Bench cases, P6).
 pub record P6 (part low high : ℕ) : Type 0 where
+  pub taken : Accepted part (awake ++ (start ∷ sent 0xA0 ∷ []))
   pub writes : toSlave part 0xA0 ≡ low ∷ low ∷ low ∷ high ∷ []
   pub reads : toSlave part 0xA1 ≡ low ∷ low ∷ low ∷ high ∷ []
   pub select : toSlave part 0xA2 ≡ high ∷ high ∷ high ∷ high ∷ []
@@ -91,7 +115,7 @@ pub record P6 (part low high : ℕ) : Type 0 where
 abbrev pub three : ℕ → ℕ → ℕ → List Capture
 three u v w = awake ++ ordered u ++ ordered v ++ ordered w
 
--- The register chosen and read once the write time is over, its bits and the ninth one in the last 30 answers (Bytes on the wire, read).
+-- The register chosen and read once the write time is over; the last 30 answers are its byte, the ninth clock and the stop's (Bytes on the wire).
 abbrev pub readsRegister : List Capture
 readsRegister = wait writeTime ∷ readAt registerAddress
 
@@ -107,6 +131,7 @@ pub record P7 (part : ℕ) : Type 0 where
   pub watchdog : watchCode (partOf part (three 0x02 0x06 0x63) .state .device .control .stored) ≡ 3
   pub block : blockCode (partOf part (three 0x02 0x06 0x63) .state .device .control .stored) ≡ 4
   pub reads : readsOf (partOf part (three 0x02 0x06 0x63) .state .device .control) ≡ 0x63
+  pub taken : Accepted part (three 0x02 0x06 0x63 ++ readsRegister)
   pub bus : clockedBits (lastAnswers 30 (answers part (three 0x02 0x06 0x63 ++ readsRegister)))
       ≡ 0 ∷ 1 ∷ 1 ∷ 0 ∷ 0 ∷ 0 ∷ 1 ∷ 1 ∷ 1 ∷ 1 ∷ []
 
@@ -116,14 +141,19 @@ latched = record { stored = 0; wel = true; rwel = true; chosen = false; pending 
 
 -- 67h as third byte changes nothing: as after 02h and 06h, RWEL stays, and no write time runs (Bench cases, P8).
 pub record P8 (part : ℕ) : Type 0 where
+  pub taken : Accepted part (three 0x02 0x06 0x67)
   pub before : partOf part (awake ++ ordered 0x02 ++ ordered 0x06) .state .device .control ≡ latched
   pub same : partOf part (three 0x02 0x06 0x67) .state .device .control ≡ latched
   pub time : partOf part (three 0x02 0x06 0x67) .state .timers .write ≡ 0
 
+-- A byte written, then 4,999 and 1 more (Bytes on the wire, stop).
+abbrev pub written5000 : List Capture
+written5000 = awake ++ ordered 2 ++ written 0 (1 ∷ []) ++ (wait 4999 ∷ wait 1 ∷ [])
+
 -- The write time ends at 5,000, not at 4,999: `writing` is the answer byte while it runs, `done` after it (Bench cases, P9).
-abbrev pub P9 : ℕ → ℕ → ℕ → Type 0
-P9 part writing done =
-    lastAnswers 3 (answers part (awake ++ ordered 2 ++ written 0 (1 ∷ []) ++ (wait 4999 ∷ wait 1 ∷ []))) ≡ writing ∷ writing ∷ done ∷ []
+pub record P9 (part writing done : ℕ) : Type 0 where
+  pub taken : Accepted part written5000
+  pub last : lastAnswers 3 (answers part written5000) ≡ writing ∷ writing ∷ done ∷ []
 
 -- The bench cases in one list, each for both parts where a part is asked (Bench cases).
 pub record BenchCases : Type 0 where

@@ -49,7 +49,7 @@ sameWhen never (sample n) = false
 sameWhen (sample k) never = false
 sameWhen (sample k) (sample n) = eqb k n
 
--- Two rows of equal length do not differ.
+-- Two rows do not differ as far as both go.
 abbrev pub alike : List ℕ → List ℕ → Bool
 alike xs ys = sameWhen (firstDiff 0 xs ys) never
 
@@ -61,7 +61,7 @@ coveredUnder (sample k) step es ls p q =
     (alike (arrayUnder step (take (suc k) es) (take (suc k) ls) p) (arrayUnder step (take (suc k) es) (take (suc k) ls) q))
     (alike (answersUnder step es ls p) (answersUnder step es ls q))
 
--- Demand 3 of a step: the answers first differ where an unequal bit is reached, and a covering write makes alike (demand 3).
+-- Demand 3 of a step, but for what it says of states and of answer bits other than SDA: where the answers first differ, and covering writes.
 abbrev pub holdsFor : Step → ℕ → List ℕ → List ℕ → Part → Part → Bool
 holdsFor step a es ls p q =
     both

@@ -1,27 +1,37 @@
--- Demand 1, of what was refused (document 01, Refusal numbers, last lines). Whatever goes in, an outcome that keeps an
--- operation's promise and says a refusal changes nothing: a replay hands back the state given and leaves array and
--- answer row as they were, a reading leaves the array, a writing the buffer. A refused power-up hands back the state
--- of part 4323, select 0, stored byte 00h.
+-- Demand 1 (document 01, Refusal numbers, last lines). Whatever goes in: where the table of refusals has a number and a place for it, an
+-- outcome that keeps the operation's promise says these, and nothing has changed: a replay hands back the state given and leaves array and
+-- answer row as they were, a reading leaves the array, a writing the buffer; the program writes one line. A refused power-up hands back the
+-- state of part 4323, select 0, stored byte 00h. What is lent for reading only (times, levels, text) no operation can change.
 use Prim.Native.Nat.{ℕ}
-use mathlib.Core.List.{List}
+use mathlib.Core.List.{List, _++_}
 use mathlib.Core.Path.{_≡_}
+use lib.ListN.{drop}
 use Rattle.part.specs.Numbers.{x4323}
 use Rattle.part.specs.declared.state.State.{State}
-use Rattle.refusals.specs.Refusals.{refused, meant}
+use Rattle.refusals.specs.Refusals.{refused, meant, powerOf, judgedOf}
 use Rattle.refusals.specs.declared.Reply.{Reply}
 use Rattle.twin.specs.declared.replays.Replayed.{Replayed}
 use Rattle.twin.specs.Power.{poweredUp}
 use Rattle.twin.specs.Promises.{PowersUp, Replays}
-use Rattle.image.specs.Promises.{ReadsImage, WritesImage}
+use Rattle.image.specs.Form.{imageSize}
+use Rattle.image.specs.Reading.{bad, readingOf}
+use Rattle.image.specs.Promises.{imageOf, writeVerdict, ReadsImage, WritesImage}
+use Rattle.tidying.specs.Shown.{refusalLine, shownOf, Starts}
 
--- What each operation leaves where it refuses, k being the number and p the place (Refusal numbers, last lines).
+-- What each operation says and leaves where it refuses: k is the paper's number and p its place (Refusal numbers, last lines).
 pub record Demand1 : Type 0 where
   pub power-up : (part select stored : ℕ) (r : Replayed) (k p : ℕ)
-      → PowersUp part select stored r → meant (r .reply) ≡ refused k p → r .state ≡ poweredUp x4323 0 0
+      → PowersUp part select stored r → powerOf part select stored ≡ refused k p
+      → (meant (r .reply) ≡ refused k p) × (r .state ≡ poweredUp x4323 0 0)
   pub replay : (s : State) (es ls array row : List ℕ) (r : Replayed) (array′ row′ : List ℕ) (k p : ℕ)
-      → Replays s es ls array row r array′ row′ → meant (r .reply) ≡ refused k p
-      → (r .state ≡ s) × (array′ ≡ array) × (row′ ≡ row)
+      → Replays s es ls array row r array′ row′ → judgedOf s es ls array row ≡ refused k p
+      → (meant (r .reply) ≡ refused k p) × (r .state ≡ s) × (array′ ≡ array) × (row′ ≡ row)
   pub read-image : (text array : List ℕ) (r : Reply) (array′ : List ℕ) (k p : ℕ)
-      → ReadsImage text array r array′ → meant r ≡ refused k p → array′ ≡ array
+      → ReadsImage text array r array′ → imageOf text array ≡ bad k p → (meant r ≡ refused k p) × (array′ ≡ array)
   pub write-image : (array out : List ℕ) (r : Reply) (out′ : List ℕ) (k p : ℕ)
-      → WritesImage array out r out′ → meant r ≡ refused k p → out′ ≡ out
+      → WritesImage array out r out′ → writeVerdict array out ≡ refused k p → (meant r ≡ refused k p) × (out′ ≡ out)
+  pub tidy : (text out : List ℕ) (r : ℕ) (out′ : List ℕ) (k p : ℕ)
+      → Starts (shownOf text) out r out′ → readingOf imageSize text ≡ bad k p → out′ ≡ refusalLine k p ++ drop r out
+  -- and a refusal is never said without one
+  pub only : (s : State) (es ls array row : List ℕ) (r : Replayed) (array′ row′ : List ℕ) (k p : ℕ)
+      → Replays s es ls array row r array′ row′ → meant (r .reply) ≡ refused k p → judgedOf s es ls array row ≡ refused k p

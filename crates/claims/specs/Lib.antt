@@ -1,6 +1,6 @@
 pub mod BenchCases
 pub mod Bent
-pub mod Cases
+pub mod ImageCases
 pub mod Demand1
 pub mod Demand2
 pub mod Differ

@@ -67,21 +67,29 @@ abbrev pub midway : Part → Part
 midway p =
     record { state = runOf (take partWay (readIt .times)) (take partWay (readIt .levels)) left .state; array = p .array }
 
--- Demand 3 of a step, two parts and a capture, computed (demand 3).
-abbrev pub holds : Step → Part → Part → Capture → Bool
-holds step p q c = holdsFor step spot (c .times) (c .levels) p q
+-- The read cut off after its third bit: the byte of the address is being sent, and only equal bits have been out.
+abbrev pub cutRead : Capture
+cutRead = record { times = take 124 (readIt .times); levels = take 124 (readIt .levels) }
+
+-- The byte being sent after a capture, as far as it is not sent yet (State and time, a byte being sent).
+abbrev pub leftToSend : Part → Capture → ℕ
+leftToSend p c = runOf (c .times) (c .levels) p .state .device .talk .out
+
+-- Demand 3 of a step, two parts and a capture, as far as it is computed: see holdsFor (demand 3).
+abbrev pub holdsOf : Step → Part → Part → Capture → Bool
+holdsOf step p q c = holdsFor step spot (c .times) (c .levels) p q
 
 -- Under the sheet's rules: where a bit is reached and the answers differ, where the address is covered; demand 3 holds.
 pub record Comes (p q : Part) (c : Capture) (reach cover : When) : Type 0 where
   pub reached : firstReach spot 0 (c .times) (c .levels) p q nothing nothing ≡ reach
   pub differ : firstDiff 0 (answersOf (c .times) (c .levels) p) (answersOf (c .times) (c .levels) q) ≡ reach
   pub covered : firstCover spot 0 (c .times) (c .levels) p ≡ cover
-  pub demanded : holds partStep p q c ≡ true
+  pub demanded : holdsOf partStep p q c ≡ true
 
 -- Under a bent step: where the answers differ; demand 3 fails.
 pub record Breaks (step : Step) (p q : Part) (c : Capture) (first : When) : Type 0 where
   pub differ : diffUnder step (c .times) (c .levels) p q ≡ first
-  pub fails : holds step p q c ≡ false
+  pub fails : holdsOf step p q c ≡ false
 
 -- The runs, all computed (demand 3).
 pub record Occurs : Type 0 where
@@ -95,11 +103,14 @@ pub record Occurs : Type 0 where
   pub unset : Comes left right unsetWrite (sample 241) never
   pub locked : Comes lockedLeft lockedRight setWrite (sample 355) never
   pub before : Comes (midway left) (midway right) (after partWay readIt) never never
-  -- under the bent steps, and for each a run that it leaves as it is
+  -- cut off before the unequal bit, the states differ in the byte being sent, and in nothing else by demand 3
+  pub cut : Comes left right cutRead never never
+  pub held : (leftToSend left cutRead ≡ 0x30) × (leftToSend right cutRead ≡ 0x70)
+  -- under the bent steps, and for each a run on which demand 3 still holds
   pub lowest : Breaks lowestFirst left right readIt (sample 129)
-  pub lowest-spares : holds lowestFirst left right setWrite ≡ true
+  pub lowest-spares : holdsOf lowestFirst left right setWrite ≡ true
   pub anew : Breaks readsAnew (midway left) (midway right) (after partWay readIt) (sample 5)
-  pub anew-spares : holds readsAnew left right readIt ≡ true
+  pub anew-spares : holdsOf readsAnew left right readIt ≡ true
   pub kept-unset : Breaks keepsWithheld left right unsetWrite never
   pub kept-locked : Breaks keepsWithheld lockedLeft lockedRight setWrite never
-  pub kept-spares : holds keepsWithheld left right readIt ≡ true
+  pub kept-spares : holdsOf keepsWithheld left right readIt ≡ true

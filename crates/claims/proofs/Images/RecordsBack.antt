@@ -18,9 +18,9 @@ use Rattle.hexfile.proofs.PairLaws.{length-pairsOf, text-pairs}
 use Rattle.image.specs.Form.{colon, charactersIn, bytesOf, countOf, addressOf, typeOf, dataOf, wellFormed}
 use Rattle.image.specs.Writing.{fieldsOf, recordText}
 use Rattle.claims.specs.RoundTrip.{allBytes}
-use Rattle.claims.proofs.Tests.{bytes-at, bytes-parts}
-use Rattle.claims.proofs.Spelling.{pairs-bytes, checked, check-last}
-use Rattle.claims.proofs.Records.{recordBytes}
+use Rattle.claims.proofs.Images.Tests.{bytes-at, bytes-parts}
+use Rattle.claims.proofs.Images.Spelling.{pairs-bytes, checked, check-last}
+use Rattle.claims.proofs.Images.Records.{recordBytes}
 
 -- A list of n + 1 elements is its first n and then the last.
 last-split : (bs : List ℕ) (n : ℕ) → length bs ≡ suc n → bs ≡ take n bs ++ (getD bs n 0 ∷ [])

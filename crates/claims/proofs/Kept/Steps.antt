@@ -29,10 +29,10 @@ use Rattle.device.specs.Ends.{startedOf, dropped, stoppedOf, endedOf}
 use Rattle.sample.specs.Level.{sclOf, sdaOf, wpOf, vccOf}
 use Rattle.sample.specs.Sample.{withWire, begun, latchedBy, opensOf, resetOf, startOf, stopOf, byteStep, heardBy}
 use Rattle.sample.specs.Sample.{lineOf, seenOf, wiredOf, goesOnBy, stepOf}
-use Rattle.claims.proofs.Signs.{Saw, saw}
-use Rattle.claims.proofs.Talks.{Talks, fresh, start-talks, stop-talks}
-use Rattle.claims.proofs.Falls.{bit-talks, byte-talks, ninth-talks}
-use Rattle.claims.proofs.Ranges.{Times, timed-times, supplied-times, watched-times, begun-times}
+use Rattle.claims.proofs.Kept.Signs.{Saw, saw}
+use Rattle.claims.proofs.Kept.Talks.{Talks, fresh, start-talks, stop-talks}
+use Rattle.claims.proofs.Kept.Falls.{bit-talks, byte-talks, ninth-talks}
+use Rattle.claims.proofs.Kept.Ranges.{Times, timed-times, supplied-times, watched-times, begun-times}
 
 -- All that is kept, together.
 pub record Sits (s : State) : Type 0 where

@@ -14,7 +14,7 @@ use Rattle.part.specs.declared.state.Timers.{Timers}
 use Rattle.part.specs.declared.state.Watchdog.{Watchdog}
 use Rattle.refusals.specs.Refusals.{inRange}
 use Rattle.sample.specs.Sample.{watched, begun}
-use Rattle.claims.proofs.Talks.{Talks}
+use Rattle.claims.proofs.Kept.Talks.{Talks}
 
 -- The three times in their ranges.
 pub record Times (t : Timers) : Type 0 where

@@ -15,7 +15,7 @@ use Rattle.hexfile.proofs.CellLaws.{length-giveOf, settled-none, give-front, bl
 use Rattle.image.specs.Form.{rowSize, addressOf, dataOf}
 use Rattle.image.specs.Reading.{givenOf}
 use Rattle.claims.specs.RoundTrip.{allBytes}
-use Rattle.claims.proofs.Tests.{bytes-cons}
+use Rattle.claims.proofs.Images.Tests.{bytes-cons}
 
 -- Cells settle to bytes.
 pub settled-bytes : (cs : List ℕ) → allBytes (settledOf cs) ≡ true

@@ -28,8 +28,8 @@ use Rattle.device.specs.Talk.{withTalk, withChosen, acknowledged, rested, sendi
 use Rattle.device.specs.Bytes.{slaveBy, slaveOf, highOf, addressBy, lowOf, takenOf, dataBy, registerBy, byteIn, byteOf}
 use Rattle.device.specs.Bytes.{keptBy, keptIn, keptOf, bitIn, bitOf, answeredBy, ninthIn, ninthOf}
 use Rattle.claims.specs.Reachable.{waits, speaks}
-use Rattle.claims.proofs.Talks.{Voice, rests, answers, sends, Pends, Talks}
-use Rattle.claims.proofs.Talks.{still, voice-stays, voice-released, whole-filled}
+use Rattle.claims.proofs.Kept.Talks.{Voice, rests, answers, sends, Pends, Talks}
+use Rattle.claims.proofs.Kept.Talks.{still, voice-stays, voice-released, whole-filled}
 
 -- The two phases that take data, for the array or for the register.
 abbrev takes : Phase → Bool

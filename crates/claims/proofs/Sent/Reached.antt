@@ -16,7 +16,7 @@ use Rattle.sample.specs.Level.{pinBy, answerOf}
 use Rattle.sample.specs.Sample.{stepOf}
 use Rattle.claims.specs.Sending.{Sent, nothing, sends, sentOf, bitFrom}
 use Rattle.claims.specs.Differ.{sameBit, reaches, elsewhere, EqualBut, silenced}
-use Rattle.claims.proofs.OneSample.{partOf, sendingState, BothSend, Beside, equal, apart, step-equal, step-apart}
+use Rattle.claims.proofs.Sent.OneSample.{partOf, sendingState, BothSend, Beside, equal, apart, step-equal, step-apart}
 
 -- Bits that are equal are one bit.
 same-one : (b c : Bool) → sameBit b c ≡ true → b ≡ c

@@ -16,11 +16,11 @@ use Rattle.image.specs.Form.{mostText, rowSize, bytesOf}
 use Rattle.image.specs.Reading.{Reading, taken, saysOf, givenOf, linesRead, textBy, readingOf}
 use Rattle.image.specs.Writing.{rowsText, imageText}
 use Rattle.claims.specs.RoundTrip.{Rows, noReturn, endsInFeed, fixedLines, fixedForm, Takes}
-use Rattle.claims.proofs.Texts.{lines-joined}
-use Rattle.claims.proofs.Cells.{settled-bytes, given-length}
-use Rattle.claims.proofs.Heeded.{last-said, line-said}
-use Rattle.claims.proofs.Written.{image-text}
-use Rattle.claims.proofs.RowsBack.{Stands, rows-back}
+use Rattle.claims.proofs.Images.Texts.{lines-joined}
+use Rattle.claims.proofs.Images.Cells.{settled-bytes, given-length}
+use Rattle.claims.proofs.Images.Heeded.{last-said, line-said}
+use Rattle.claims.proofs.Images.Written.{image-text}
+use Rattle.claims.proofs.Images.RowsBack.{Stands, rows-back}
 
 -- Lines that give an array give one byte for each cell.
 lines-rows : (n : ℕ) (ls : List (List ℕ)) (total place : ℕ) (cells array : List ℕ) → length cells ≡ n * rowSize

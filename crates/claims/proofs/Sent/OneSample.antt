@@ -32,7 +32,7 @@ use Rattle.twin.specs.Run.{Part}
 use Rattle.claims.specs.Sending.{Sent, nothing, sends, sendsArray, fetchedBy, nextSent, sentBy, heardSent, sentOf}
 use Rattle.claims.specs.Sending.{bitFrom}
 use Rattle.claims.specs.Differ.{elsewhere, EqualBut}
-use Rattle.claims.proofs.SentBits.{shifted, bit-out}
+use Rattle.claims.proofs.Sent.SentBits.{shifted, bit-out}
 
 -- The bits committed before and after each sign.
 abbrev Counts : Sign → ℕ → ℕ → Type 0

@@ -1,13 +1,16 @@
 -- The bench cases of image files (document 01, Bench cases, P10 and P11).
-use Prim.Native.Nat.{ℕ}
+use Prim.Native.Nat.{ℕ, _≤_}
 use Prim.Native.Char.{code}
 use Prim.Native.String.{String, [] as ended, _∷_ as _before_}
-use mathlib.Core.List.{List, [], _∷_}
+use mathlib.Core.List.{List, [], _∷_, _++_}
 use mathlib.Core.Path.{_≡_}
-use lib.ListN.{replicate, set}
+use lib.ListN.{length, drop, replicate, set}
+use Rattle.refusals.specs.Refusals.{accepted, refused, meant}
+use Rattle.refusals.specs.declared.Reply.{Reply}
 use Rattle.image.specs.Form.{imageSize}
 use Rattle.image.specs.Reading.{taken, bad, readingOf}
 use Rattle.image.specs.Writing.{imageText}
+use Rattle.image.specs.Promises.{ReadsImage, WritesImage}
 use Rattle.tidying.specs.Shown.{shownOf}
 
 -- The characters of a text as numbers (Image files, the text shown).
@@ -28,8 +31,15 @@ pub record P10 : Type 0 where
   pub written : imageText paperArray ≡ paperText
   pub read : readingOf imageSize paperText ≡ taken paperArray
   pub tidied : shownOf paperText ≡ paperText
+  -- the same of the operations: 56 is the text's length
+  pub writes : (out out′ : List ℕ) (r : Reply) → 11276 ≤ length out → WritesImage paperArray out r out′
+      → (meant r ≡ accepted 56) × (out′ ≡ paperText ++ drop 56 out)
+  pub reads : (old array′ : List ℕ) (r : Reply) → length old ≡ 4096 → ReadsImage paperText old r array′
+      → (meant r ≡ accepted 56) × (array′ ≡ paperArray)
 
--- An empty text is 17 at 0, and that is the line that the program writes (Bench cases, P11).
+-- An empty text is 17 at 0, the array stays, and that is the line that the program writes (Bench cases, P11).
 pub record P11 : Type 0 where
   pub read : readingOf imageSize [] ≡ bad 17 0
   pub tidied : shownOf [] ≡ codesOf "17 0\n"
+  pub reads : (old array′ : List ℕ) (r : Reply) → length old ≡ 4096 → ReadsImage [] old r array′
+      → (meant r ≡ refused 17 0) × (array′ ≡ old)

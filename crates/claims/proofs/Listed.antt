@@ -1,0 +1,3 @@
+-- Bench cases that are shown by themselves.
+pub mod LockCases
+pub mod ImageCases
