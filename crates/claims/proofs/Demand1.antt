@@ -1,13 +1,7 @@
 -- A refusal changes nothing: a replay hands back the state given and leaves array and answer row as they were, a
 -- reading leaves the array, a writing the buffer; a refused power-up hands back the state of part 4323, select 0,
 -- stored byte 00h. It rests on the promises alone. No axiom is used.
-use Prim.Native.Nat.{ℕ}
-use mathlib.Core.List.{List}
-use mathlib.Core.Path.{_≡_, refl, sym, _∙_}
-use Rattle.refusals.specs.Refusals.{refused}
-use Rattle.refusals.proofs.Laws.{apart}
-use Rattle.image.specs.Reading.{Reading, taken, bad}
-use Rattle.image.specs.Promises.{verdictOf, arrayAfter}
+use mathlib.Core.Path.{sym, _∙_}
 use Rattle.tidying.specs.Shown.{shownOf}
 use Rattle.claims.specs.Demand1.{Demand1}
 

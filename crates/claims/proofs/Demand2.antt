@@ -1,6 +1,6 @@
 -- Every accepted capture gives what the rules say, sample after sample, and as many answers as it has samples; in two
--- pieces, state and array carried on, it gives what it gives whole. It rests on the replay's promise alone. No axiom is
--- used.
+-- pieces, state and array carried on, it gives what it gives whole, and wherever it is cut both pieces are accepted. It
+-- rests on the replay's promise alone. No axiom is used.
 use Prim.Native.Nat.{ℕ, zero, suc, _+_, _<_, _≤_}
 use native.Mathlib.Numerals.{add-one}
 use mathlib.Core.Bool.{Bool, true, false}
@@ -9,7 +9,7 @@ use mathlib.Core.Path.{_≡_, refl, ap, sym, _∙_}
 use native.Mathlib.Omega.{arith}
 use lib.Dec.{eqb, leb}
 use lib.ListN.{length, getD, take, length-append}
-use borrow.Author.Tests.{eq-eqb, le-leb}
+use borrow.Author.Tests.{eq-eqb, le-leb, eqb-true, leb-true}
 use Rattle.part.specs.Numbers.{mostElapsed, mostLevel, mostSamples}
 use Rattle.part.specs.Kind.{kindOf}
 use Rattle.part.specs.declared.state.State.{State}
@@ -22,6 +22,7 @@ use Rattle.twin.specs.Run.{Part, partStep, runOf, answersOf}
 use Rattle.twin.specs.Promises.{Replays, Runs}
 use Rattle.claims.specs.Demand2.{ByRules, Pieces, Counted, Demand2}
 use Rattle.claims.proofs.OneReply.{meant-one}
+use Rattle.claims.proofs.Kept.InRange.{Fit, run-fit}
 
 -- Rows joined are run one after the other.
 pub run-append : (es₁ ls₁ es₂ ls₂ : List ℕ) (p : Part) → length es₁ ≡ length ls₁
@@ -83,25 +84,55 @@ samples-through : (es ls : List ℕ) (i n m : ℕ) (v : Verdict) → length es �
     → samplesOf i es ls (accepted n) ≡ accepted m → (q : ℕ) → samplesOf q es ls v ≡ v
 samples-through es ls i n m v e h q = simp append-nil at (samples-on es ls [] [] i q n m v e h (λ r. refl))
 
--- What else an accepted replay has passed, beside the lengths, and what its samples said.
-record Passed (state array : Bool) (v : Verdict) (n : ℕ) : Type 0 where
+-- A sample that lets an acceptance through has it from the later samples.
+sample-past : (a b : Bool) (i m : ℕ) (rest : Verdict) → sampleBy a b i rest ≡ accepted m → rest ≡ accepted m
+sample-past false b i m rest h = absurd (apart 9 i m h)
+sample-past true false i m rest h = absurd (apart 10 i m h)
+sample-past true true i m rest h = h
+
+-- Rows joined that let an acceptance through: the first are as good as none.
+samples-first : (es₁ ls₁ es₂ ls₂ : List ℕ) (i j m : ℕ) (u v : Verdict) → length es₁ ≡ length ls₁
+    → samplesOf i (es₁ ++ es₂) (ls₁ ++ ls₂) u ≡ accepted m → samplesOf j es₁ ls₁ v ≡ v
+samples-first [] [] es₂ ls₂ i j m u v e h = refl
+samples-first [] (l ∷ ls) es₂ ls₂ i j m u v e h = absurd (omega arith)
+samples-first (x ∷ es) [] es₂ ls₂ i j m u v e h = absurd (omega arith)
+samples-first (x ∷ es) (l ∷ ls) es₂ ls₂ i j m u v e h =
+    sample-on (leb x mostElapsed) (leb l mostLevel) i j m (samplesOf (i + 1) (es ++ es₂) (ls ++ ls₂) u)
+    (samplesOf (j + 1) es ls v) v h (λ r. samples-first es ls es₂ ls₂ (i + 1) (j + 1) m u v (omega arith) r)
+
+-- And so are the second.
+samples-second : (es₁ ls₁ es₂ ls₂ : List ℕ) (i j m : ℕ) (u v : Verdict) → length es₁ ≡ length ls₁
+    → length es₂ ≡ length ls₂ → samplesOf i (es₁ ++ es₂) (ls₁ ++ ls₂) u ≡ accepted m → samplesOf j es₂ ls₂ v ≡ v
+samples-second [] [] es₂ ls₂ i j m u v e f h =
+    samples-first es₂ ls₂ [] [] i j m u v f (rw (append-nil es₂, append-nil ls₂) h)
+samples-second [] (l ∷ ls) es₂ ls₂ i j m u v e f h = absurd (omega arith)
+samples-second (x ∷ es) [] es₂ ls₂ i j m u v e f h = absurd (omega arith)
+samples-second (x ∷ es) (l ∷ ls) es₂ ls₂ i j m u v e f h =
+    samples-second es ls es₂ ls₂ (i + 1) j m u v (omega arith) f
+    (sample-past (leb x mostElapsed) (leb l mostLevel) i m (samplesOf (i + 1) (es ++ es₂) (ls ++ ls₂) u) h)
+
+-- What else an accepted replay has passed, beside the equal lengths, and what its samples said.
+record Passed (state array few : Bool) (v : Verdict) (n : ℕ) : Type 0 where
   state-good : state ≡ true
   array-good : array ≡ true
+  few-enough : few ≡ true
   samples : v ≡ accepted n
 
 -- So says the table.
-passed : (a b d e f : Bool) (v : Verdict) (n : ℕ) → judgedBy a b d e f v ≡ accepted n → Passed a b v n
+passed : (a b d e f : Bool) (v : Verdict) (n : ℕ) → judgedBy a b d e f v ≡ accepted n → Passed a b e v n
 passed false b d e f v n h = absurd (apart 4 0 n h)
 passed true false d e f v n h = absurd (apart 5 0 n h)
 passed true true false e f v n h = absurd (apart 6 0 n h)
 passed true true true false f v n h = absurd (apart 7 0 n h)
 passed true true true true false v n h = absurd (apart 8 0 n h)
-passed true true true true true v n h = record { state-good = refl; array-good = refl; samples = h }
+passed true true true true true v n h =
+    record { state-good = refl; array-good = refl; few-enough = refl; samples = h }
 
 module _ (s : State) (es ls array row : List ℕ) (n : ℕ) (j : judgedOf s es ls array row ≡ accepted n) where
   -- So says the verdict.
   judged-passed :
-      Passed (inRange s) (eqb (length array) (kindOf (s .part) .size)) (samplesOf 0 es ls (accepted (length ls))) n
+      Passed (inRange s) (eqb (length array) (kindOf (s .part) .size)) (leb (length ls) mostSamples)
+      (samplesOf 0 es ls (accepted (length ls))) n
   unfolding judgedOf
   judged-passed =
       passed
@@ -186,6 +217,42 @@ runs-joined s t u es₁ ls₁ es₂ ls₂ array array₁ array₂ row row₁ row
       said = cc (ap (answersOf es₂ ls₂) m);
     }
 
+-- A part that passes the tests of refusals 4 and 5, with few enough rows of one length and no faulty sample.
+fit-judged : (p : Part) (es ls row : List ℕ) → Fit p → length es ≡ length ls → length ls ≤ mostSamples
+    → length row ≡ length ls → samplesOf 0 es ls (accepted (length ls)) ≡ accepted (length ls)
+    → judgedOf (p .state) es ls (p .array) row ≡ accepted (length ls)
+unfolding judgedOf
+fit-judged p es ls row g e m a h =
+    let same = eq-eqb (length ls) (length ls) refl in
+    let sized = eq-eqb (length (p .array)) (kindOf (p .state .part) .size) (g .size) in
+    rw (g .range, sized, e, same, le-leb (length ls) mostSamples m, a, same, h)
+
+module _ (es₁ ls₁ es₂ ls₂ : List ℕ) (p : Part) (row row₁ row₂ : List ℕ) (n : ℕ) (e : length es₁ ≡ length ls₁)
+    (j : judgedOf (p .state) (es₁ ++ es₂) (ls₁ ++ ls₂) (p .array) row ≡ accepted n) where
+  -- A whole that is accepted, cut in two.
+  cut-judged : length row₁ ≡ length ls₁ → length row₂ ≡ length ls₂
+      → (judgedOf (p .state) es₁ ls₁ (p .array) row₁ ≡ accepted (length ls₁))
+      × (judgedOf (runOf es₁ ls₁ p .state) es₂ ls₂ (runOf es₁ ls₁ p .array) row₂ ≡ accepted (length ls₂))
+  cut-judged a b =
+      let x = judged-passed (p .state) (es₁ ++ es₂) (ls₁ ++ ls₂) (p .array) row n j in
+      let c = length-append es₁ es₂ in
+      let d = length-append ls₁ ls₂ in
+      let t = rows-equal (p .state) (es₁ ++ es₂) (ls₁ ++ ls₂) (p .array) row n j in
+      let f : length es₂ ≡ length ls₂ = omega arith in
+      let m = leb-true (length (ls₁ ++ ls₂)) mostSamples (x .few-enough) in
+      let u = accepted (length (ls₁ ++ ls₂)) in
+      let g : Fit p =
+      record {
+        range = x .state-good;
+        size = eqb-true (length (p .array)) (kindOf (p .state .part) .size) (x .array-good);
+      }
+      in (
+        fit-judged p es₁ ls₁ row₁ g e (omega arith) a
+            (samples-first es₁ ls₁ es₂ ls₂ 0 0 n u (accepted (length ls₁)) e (x .samples)),
+        fit-judged (runOf es₁ ls₁ p) es₂ ls₂ row₂ (run-fit es₁ ls₁ p g) f (omega arith) b
+            (samples-second es₁ ls₁ es₂ ls₂ 0 0 n u (accepted (length ls₂)) e f (x .samples)),
+      )
+
 -- A capture in two pieces.
 pieces : (es₁ ls₁ es₂ ls₂ : List ℕ) → Pieces es₁ ls₁ es₂ ls₂
 pieces es₁ ls₁ es₂ ls₂ =
@@ -205,6 +272,7 @@ pieces es₁ ls₁ es₂ ls₂ =
             judged = j;
             replays = runs-replays s (es₁ ++ es₂) (ls₁ ++ ls₂) array row (n₁ + n₂) j z array₂ (said₁ ++ said₂) w;
           };
+      split = λ p row row₁ row₂ n e j a b. cut-judged es₁ ls₁ es₂ ls₂ p row row₁ row₂ n e j a b;
     }
 
 -- The claim: whole, in pieces and counted.

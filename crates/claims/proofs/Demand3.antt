@@ -2,6 +2,7 @@
 -- first differ at the sample where a byte fetched from the address within the samples reaches an unequal bit, there in
 -- the SDA bit alone; where none does they never differ, and all that is left unequal is the array at the address and a
 -- byte from it being sent. A write that covers the address before any fetch from it makes the two equal from then on.
+-- The bit that is out is what a part gives on SDA, and a byte that no write covers stays.
 -- Assumes a page load of 64 bytes and 64 marks.
 use Prim.Native.Nat.{ℕ, zero, suc, _+_, _<_}
 use mathlib.Core.Bool.{Bool, true, false, not}
@@ -14,12 +15,14 @@ use Rattle.part.specs.declared.state.State.{State}
 use Rattle.sample.specs.Level.{answerOf}
 use Rattle.sample.specs.Sample.{stepOf, arrayOf}
 use Rattle.twin.specs.Run.{Part, partStep, runOf, answersOf}
-use Rattle.claims.specs.Sending.{Sent, nothing, sends, sentOf}
-use Rattle.claims.specs.Differ.{never, sample, reaches, firstReach, firstDiff, fetchesAt, covers, firstCover}
-use Rattle.claims.specs.Differ.{EqualBut, FullLoad, elsewhere, sentAfter, SplitAt, Alike, Covered, Demand3}
+use Rattle.claims.specs.Sending.{Sent, nothing, sentOf}
+use Rattle.claims.specs.Differ.{never, sample, reaches, firstReach, firstDiff, fetches, covers, firstCover}
+use Rattle.claims.specs.Differ.{EqualBut, FullLoad, sentAfter, SplitAt, Alike, Covered, Demand3}
 use Rattle.claims.proofs.Sent.TwoArrays.{arrays-kept, arrays-equal, array-silent, whole-kept}
 use Rattle.claims.proofs.Sent.OneSample.{partOf, Beside, equal}
 use Rattle.claims.proofs.Sent.Reached.{beside-answers, beside-line, beside-silenced, beside-equal, beside-step}
+use Rattle.claims.proofs.Sent.Shown.{shown}
+use Rattle.claims.proofs.Sent.OneByte.{rows-stay}
 
 -- Two parts beside each other, with what each sends: their states are, and their arrays are equal but for the address.
 record Near (a : ℕ) (p q : Part) (g h : Sent) : Type 0 where
@@ -107,24 +110,19 @@ goes {a} i (e ∷ es) (l ∷ ls) {p} {q} {g} {h} n x =
     by true y m later = goes-here m y
     by false y m later = goes-later m y (later m y)
 
--- A byte that is not fetched from the address is from elsewhere.
-none-fetched : (a : ℕ) (g : Sent) → fetchesAt a g ≡ false → elsewhere a g ≡ true
-none-fetched a nothing e = refl
-none-fetched a (sends b v n) e = ap not e
-
 -- A sample that does not fetch from the address leaves one state one.
 states-stay : {a : ℕ} {xs ys : List ℕ} (e l : ℕ) (s : State) → EqualBut a xs ys
-    → fetchesAt a (sentOf e l (partOf s xs) nothing) ≡ false → stepOf e l xs s ≡ stepOf e l ys s
+    → fetches a e l (partOf s xs) ≡ false → stepOf e l xs s ≡ stepOf e l ys s
 states-stay {a} {xs} {ys} e l s but x =
     let start : Beside a s s nothing nothing = equal refl refl refl in
-    beside-equal (beside-step but e l start refl) (none-fetched a (sentOf e l (partOf s xs) nothing) x)
+    beside-equal (beside-step but e l start refl) (ap not x)
 
 -- How two parts in one state go through the rows, samples counted from i: the first cover makes them equal, or there is none.
 data Covers (a i : ℕ) (es ls : List ℕ) (p q : Part) : Type 0 where
   covered-at : (k : ℕ) → firstCover a i es ls p ≡ sample (i + k) → Covered k es ls p q → Covers a i es ls p q
   uncovered : firstCover a i es ls p ≡ never → Covers a i es ls p q
 
-module _ {a i e l : ℕ} {es ls : List ℕ} {p q : Part} (x : fetchesAt a (sentOf e l p nothing) ≡ false) where
+module _ {a i e l : ℕ} {es ls : List ℕ} {p q : Part} (x : fetches a e l p ≡ false) where
   -- Parts that a cover made equal stay equal and answer alike.
   covers-here : covers a e l p ≡ true → partStep e l p ≡ partStep e l q → Covers a i (e ∷ es) (l ∷ ls) p q
   covers-here y f =
@@ -145,7 +143,7 @@ module _ {a i e l : ℕ} {es ls : List ℕ} {p q : Part} (x : fetchesAt a (sentO
 
 -- They go so by whether a sample fetches from the address, and whether it covers it.
 covers-by : {a i : ℕ} {es ls xs ys : List ℕ} (e l : ℕ) (s : State) (b c : Bool) → FullLoad s → EqualBut a xs ys
-    → fetchesAt a (sentOf e l (partOf s xs) nothing) ≡ b → covers a e l (partOf s xs) ≡ c
+    → fetches a e l (partOf s xs) ≡ b → covers a e l (partOf s xs) ≡ c
     → Covers a (i + 1) es ls (partOf (stepOf e l xs s) (arrayOf e l xs s)) (partOf (stepOf e l xs s) (arrayOf e l ys s))
     → Covers a i (e ∷ es) (l ∷ ls) (partOf s xs) (partOf s ys)
 unfolding partStep
@@ -164,7 +162,7 @@ covers-rows : {a : ℕ} {xs ys : List ℕ} (i : ℕ) (es ls : List ℕ) (s : Sta
 covers-rows i [] ls s w but = uncovered refl
 covers-rows i (e ∷ es) [] s w but = uncovered refl
 covers-rows {a} {xs} i (e ∷ es) (l ∷ ls) s w but =
-    covers-by e l s (fetchesAt a (sentOf e l (partOf s xs) nothing)) (covers a e l (partOf s xs)) w but refl refl
+    covers-by e l s (fetches a e l (partOf s xs)) (covers a e l (partOf s xs)) w but refl refl
     (covers-rows (i + 1) es ls (stepOf e l xs s) (whole-kept e l xs s w) (arrays-kept e l s w but))
 
 module _ {a : ℕ} {es ls : List ℕ} {p q : Part} where
@@ -210,4 +208,6 @@ demand-3 a s xs ys es ls w but =
       reached = λ k f. reached-of k f t;
       unreached = λ f. unreached-of f t;
       covered = λ k f. covered-of k f (covers-rows 0 es ls s w but);
+      out = shown es ls;
+      uncovered = rows-stay a es ls (partOf s xs) w;
     }

@@ -153,7 +153,7 @@ unfolding partStep
 stands-holds p t =
     let g = t .sits in
     record {
-      size = t .size;
+      size = t .fit .size;
       start = λ e level o f. true≢false (sym (ap isEnd f) ∙ held-inside e level (p .state) g o);
       stop = λ e level n o f. true≢false (sym (ap isEnd f) ∙ held-inside e level (p .state) g o);
       mark = λ e level i a b. step-stays e level (p .array) (p .state) (λ y. g .talks .opens y .phase) .mark i a b;

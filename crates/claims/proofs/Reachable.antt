@@ -1,4 +1,4 @@
--- What every reachable state keeps, shown by one induction over the rows. Assumes nothing.
+-- What every reachable state keeps, shown by induction over the rows. Assumes nothing.
 use Prim.Native.Nat.{ℕ, _<_}
 use mathlib.Core.Bool.{Bool, true, false, true≢false}
 use mathlib.Core.List.{List, [], _∷_, _++_}
@@ -15,14 +15,13 @@ use Rattle.part.specs.declared.state.Phase.the-variants.{Idle}
 use Rattle.part.specs.declared.state.State.{State}
 use Rattle.part.proofs.Laws.{both-split}
 use Rattle.part.proofs.Known.{kind-sound}
-use Rattle.refusals.specs.Refusals.{accepted, storable, powerBy, powerOf}
-use Rattle.sample.proofs.Sampled.{array-length}
+use Rattle.refusals.specs.Refusals.{accepted, storable, powerBy, powerOf, inRange}
 use Rattle.twin.specs.Run.{Part, partStep, runOf}
 use Rattle.twin.specs.Power.{poweredUp}
 use Rattle.claims.specs.Reachable.{atPower, Reachable, speaks, sendsNow, Lowers, acknowledges, sendsZero, Keeps}
 use Rattle.claims.proofs.Kept.Talks.{Voice, rests, answers, sends, fresh}
-use Rattle.claims.proofs.Kept.Ranges.{in-range}
-use Rattle.claims.proofs.Kept.Steps.{Sits, step-sits, step-part}
+use Rattle.claims.proofs.Kept.InRange.{Within, within-range, Fit, run-fit}
+use Rattle.claims.proofs.Kept.Steps.{Sits, step-sits}
 
 -- An accepted power-up has passed the tests of refusals 1 to 3.
 power-passed : (a b c : Bool) → powerBy a b c ≡ accepted 0 → (a ≡ true) × (b ≡ true) × (c ≡ true)
@@ -31,47 +30,55 @@ power-passed true true false e = absurd (true≢false (cc))
 power-passed true false c e = absurd (true≢false (cc))
 power-passed false b c e = absurd (true≢false (cc))
 
--- The state at an accepted power-up.
-power-sits : (part select stored : ℕ) → powerOf part select stored ≡ accepted 0 → Sits (poweredUp part select stored)
-unfolding powerOf poweredUp
-power-sits part select stored e =
-    let t = power-passed (known part) (leb select mostSelect) (storable stored) e in
+-- The state at a power-up.
+power-sits : (part select stored : ℕ) → Sits (poweredUp part select stored)
+unfolding poweredUp
+power-sits part select stored =
     record {
       talks =
           fresh (kindOf part) 0 Idle (at 0)
           (record { stored = stored; wel = false; rwel = false; chosen = false; pending = false; value = 0 }) refl (λ x. cc)
-          (kind-sound part (t .0) .some) (t .2) refl refl;
+          refl refl;
+      line = λ x y. cc;
+    }
+
+-- At an accepted one, it is within the eight ranges.
+power-within : (part select stored : ℕ) → powerOf part select stored ≡ accepted 0 → Within (poweredUp part select stored)
+unfolding powerOf poweredUp
+power-within part select stored e =
+    let t = power-passed (known part) (leb select mostSelect) (storable stored) e in
+    record {
+      counter = kind-sound part (t .0) .some;
       bits = omega arith;
       times = record { write = omega arith; hold = omega arith; left = omega arith };
       part = t .0;
       select = t .1;
-      line = λ x y. cc;
+      stored = t .2;
     }
 
--- A part whose state keeps all, beside an array of its kind's size.
+-- A part whose state keeps all, within the eight ranges, beside an array of its kind's size.
 pub record Stands (p : Part) : Type 0 where
   pub sits : Sits (p .state)
-  pub size : length (p .array) ≡ kindOf (p .state .part) .size
+  pub fit : Fit p
 
 -- The rows, first sample first.
-run-stands : (es ls : List ℕ) (p : Part) → Stands p → Stands (runOf es ls p)
+run-sits : (es ls : List ℕ) (p : Part) → Sits (p .state) → Sits (runOf es ls p .state)
 unfolding partStep
-run-stands [] ls p g = g
-run-stands (e ∷ es) [] p g = g
-run-stands (e ∷ es) (l ∷ ls) p g =
-    run-stands es ls (partStep e l p)
-    (record {
-      sits = step-sits e l (p .array) (p .state) (g .sits);
-      size = rw (array-length e l (p .array) (p .state), step-part e l (p .array) (p .state)) (g .size);
-    })
+run-sits [] ls p g = g
+run-sits (e ∷ es) [] p g = g
+run-sits (e ∷ es) (l ∷ ls) p g = run-sits es ls (partStep e l p) (step-sits e l (p .array) (p .state) g)
 
 -- Every reachable part.
 pub reachable-stands : (p : Part) → Reachable p → Stands p
 unfolding poweredUp
 reachable-stands p r =
+    let q = atPower (r .part) (r .select) (r .stored) (r .array) in
+    let w = power-within (r .part) (r .select) (r .stored) (r .given) in
     subst (λ (x : Part). Stands x) (r .reached)
-    (run-stands (r .es) (r .ls) (atPower (r .part) (r .select) (r .stored) (r .array))
-    (record { sits = power-sits (r .part) (r .select) (r .stored) (r .given); size = r .size }))
+    (record {
+      sits = run-sits (r .es) (r .ls) q (power-sits (r .part) (r .select) (r .stored));
+      fit = run-fit (r .es) (r .ls) q (record { range = within-range (q .state) w; size = r .size });
+    })
 
 -- In a phase of a read, below the eighth bit, a byte is being sent.
 sends-now : (s : State) → speaks (s .device .talk .phase) ≡ true → s .wire .frame .bits < mostBits → sendsNow s ≡ true
@@ -110,8 +117,8 @@ not-both true h = h refl
 not-both false h = refl
 
 -- What is kept together gives each part.
-sits-keeps : (s : State) → Sits s → Keeps s
-sits-keeps s g =
+sits-keeps : (s : State) → Sits s → inRange s ≡ true → Keeps s
+sits-keeps s g r =
     record {
       loading = g .talks .opens;
       pending =
@@ -126,13 +133,13 @@ sits-keeps s g =
       own = low-reason s (g .talks .voice);
       sent = voice-sent s (g .talks .voice);
       silent = voice-silent s (g .talks .voice);
-      range = in-range s (g .talks) (g .bits) (g .times) (g .part) (g .select);
+      range = r;
       line = g .line;
     }
 
 -- Every reachable state keeps what is listed.
 pub reachable-keeps : (p : Part) → Reachable p → Keeps (p .state)
-reachable-keeps p r = sits-keeps (p .state) (reachable-stands p r .sits)
+reachable-keeps p r = let g = reachable-stands p r in sits-keeps (p .state) (g .sits) (g .fit .range)
 
 -- A part at an accepted power-up is reachable, by no rows.
 pub power-reachable : (part select stored : ℕ) (array : List ℕ) → powerOf part select stored ≡ accepted 0

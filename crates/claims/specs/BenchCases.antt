@@ -3,7 +3,7 @@ use Prim.Native.Nat.{ℕ, _-_, _%_}
 use mathlib.Core.Bool.{Bool, true, false}
 use mathlib.Core.List.{List, [], _∷_, _++_}
 use mathlib.Core.Path.{_≡_}
-use lib.ListN.{length, take, drop, replicate}
+use lib.ListN.{length, drop, replicate}
 use Rattle.part.specs.Numbers.{x4323, x4325, writeTime, registerAddress}
 use Rattle.part.specs.Kind.{kindOf}
 use Rattle.part.specs.Lock.{blockCode, lockedOf}

@@ -1,5 +1,5 @@
 -- Demand 3 in a form that computes, with the step as a parameter, and three steps that bend one rule each. Where an unequal
--- bit is reached and the address covered is always said by the sheet's rules (document 01, demand 3; Bytes on the wire).
+-- bit is reached and the address covered is always said by the sheet's rules (demand 3; document 01, Bytes on the wire).
 use Prim.Native.Nat.{ℕ, zero, suc, _+_, _-_, _*_, _/_, _%_, _^_}
 use mathlib.Core.Bool.{Bool, true, false}
 use mathlib.Core.List.{List, [], _∷_}

@@ -3,7 +3,8 @@
 -- one sample's rule gives, applied to the samples one after another; each answer is that of the part after the samples
 -- up to its own; and the count is the length of the rows. Two pieces of a capture that are accepted one after the
 -- other, state and array carried on, give what the whole gives: joined, their outcomes are one that keeps the promise
--- for the whole, and there is only one such (OneReply).
+-- for the whole, and there is only one such (OneReply). And an accepted capture can be cut anywhere: its first piece is
+-- accepted, and so is its second, from the state and the array that the first leaves.
 use Prim.Native.Nat.{ℕ, _+_, _<_, _≤_}
 use mathlib.Core.List.{List, _++_}
 use mathlib.Core.Path.{_≡_}
@@ -42,6 +43,12 @@ pub record Pieces (es₁ ls₁ es₂ ls₂ : List ℕ) : Type 0 where
       → length row ≡ n₁ + n₂ → n₁ + n₂ ≤ mostSamples
       → Accepts s (es₁ ++ es₂) (ls₁ ++ ls₂) array row (n₁ + n₂)
       (record { reply = Accepted (n₁ + n₂); state = r₂ .state }) array₂ (said₁ ++ said₂)
+  -- An accepted whole can be cut anywhere: both pieces are accepted (Refusal numbers, 4 to 10; State and time, ranges).
+  pub split : (p : Part) (row row₁ row₂ : List ℕ) (n : ℕ) → length es₁ ≡ length ls₁
+      → judgedOf (p .state) (es₁ ++ es₂) (ls₁ ++ ls₂) (p .array) row ≡ accepted n
+      → length row₁ ≡ length ls₁ → length row₂ ≡ length ls₂
+      → (judgedOf (p .state) es₁ ls₁ (p .array) row₁ ≡ accepted (length ls₁))
+      × (judgedOf (runOf es₁ ls₁ p .state) es₂ ls₂ (runOf es₁ ls₁ p .array) row₂ ≡ accepted (length ls₂))
 
 -- The count of an accepted capture is the length of its rows (Leaving no slack, the count's being the row length).
 pub record Counted (es ls row : List ℕ) (n : ℕ) : Type 0 where

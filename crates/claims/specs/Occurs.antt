@@ -1,6 +1,6 @@
 -- Demand 3 is not empty: runs that reach an unequal bit, that are covered before, and that do neither; and for each of three
 -- bent steps a run for which demand 3 fails. Two X4323 of select 0, whose arrays of 4,096 bytes differ at one address in one
--- bit (document 01, demand 3).
+-- bit (demand 3; document 01, State and time, a byte being sent).
 use Prim.Native.Nat.{ℕ}
 use mathlib.Core.Bool.{Bool, true, false}
 use mathlib.Core.List.{List, [], _∷_, _++_}

@@ -1,5 +1,10 @@
 -- The states that a part comes to from power-up, and what each of them keeps
 -- (document 01, State and time; Bytes on the wire; Control register).
+-- For a person from the line: switch on a known part, with an array of its size, and give it any samples whatever. It
+-- pulls SDA low only to acknowledge a byte or to send a 0, and while it does so it sees no start and no stop. It holds
+-- bytes for the array only while they come in, with WEL set and the place not locked, all of them in one page; it holds
+-- a byte for the control register only while that is addressed, and never beside them. What the ranges of refusal 4 ask
+-- of a state holds after every sample.
 use Prim.Native.Nat.{ℕ}
 use mathlib.Core.Bool.{Bool, true, false}
 use mathlib.Core.List.{List}
@@ -92,9 +97,10 @@ pub data Lowers : State → Type 0 where
   acknowledges : {s : State} → s .wire .frame .bits ≡ mostBits → waits (s .device .talk .phase) ≡ false → Lowers s
   sendsZero : {s : State} → sendsNow s ≡ true → highest (s .device .talk .out) ≡ false → Lowers s
 
--- What every reachable state keeps.
+-- What every reachable state keeps (State and time; Bytes on the wire; Control register).
 pub record Keeps (s : State) : Type 0 where
-  -- Marks are set only while data comes in; the load has no page but the counter's (Bytes on the wire, array data).
+  -- Marks are set only while data comes in, WEL set, the counter's place not locked; that the marks lie in the
+  -- counter's page: Holds.mark and Holds.page (Bytes on the wire, array data).
   pub loading : marked (s .load) ≡ true → Loading (kindOf (s .part)) (s .device)
   -- A register byte pends only in its phase and never beside a load (Control register).
   pub pending : s .device .control .pending ≡ true → Pending s
@@ -113,7 +119,7 @@ pub record Keeps (s : State) : Type 0 where
   -- With SCL high, own SDA low has been seen on the line (State and time, 4).
   pub line : s .device .talk .own ≡ false → s .wire .lines .scl ≡ true → s .wire .lines .sda ≡ false
 
--- What holds of every reachable part with its array, and of every sample that it is given.
+-- What holds of every reachable part with its array, and of every sample given (State and time; Bytes on the wire).
 pub record Holds (p : Part) : Type 0 where
   -- The array has the size of the part (Refusal numbers, 5).
   pub size : length (p .array) ≡ kindOf (p .state .part) .size
@@ -126,6 +132,6 @@ pub record Holds (p : Part) : Type 0 where
   -- A mark that comes to be set is that of the counter's place in its page (Bytes on the wire, array data).
   pub mark : (e level i : ℕ) → getD (p .state .load .marks) i false ≡ false
       → getD (partStep e level p .state .load .marks) i false ≡ true → i ≡ inPage (p .state .device .counter)
-  -- A sample that leaves a mark set leaves the counter in its page, so all marks are places of the counter's page.
+  -- A sample that leaves a mark set keeps the counter in its page: all marks lie there (Bytes on the wire, array data).
   pub page : (e level : ℕ) → marked (partStep e level p .state .load) ≡ true
       → pageOf (partStep e level p .state .device .counter) ≡ pageOf (p .state .device .counter)

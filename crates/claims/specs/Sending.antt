@@ -1,5 +1,5 @@
 -- What is being sent, beside a run: the byte that was fetched within the given samples, and which bit of it is out
--- (document 01, Bytes on the wire, read; State and time; demand 3).
+-- (document 01, Bytes on the wire, read; State and time, a byte being sent; demand 3).
 use Prim.Native.Nat.{ℕ, _+_, _-_, _/_, _^_}
 use mathlib.Core.Bool.{Bool, true, false, not}
 use mathlib.Core.List.{List}
@@ -30,7 +30,8 @@ sendsArray Register = false
 sendsArray Send = true
 sendsArray SendRegister = false
 
--- A ninth fall with a low ninth bit fetches the array byte at the counter, its highest bit out (Bytes on the wire, read).
+-- A ninth fall with a low ninth bit fetches the array byte at the counter, its highest bit out. After the slave byte that bit
+-- is low because the part acknowledges it itself (Bytes on the wire, read; after a start).
 abbrev pub fetchedBy : Bool → List ℕ → Device → Sent
 fetchedBy true array d = sends (d .counter .0) (byteAt array (d .counter)) 0
 fetchedBy false array d = nothing

@@ -5,11 +5,10 @@ use mathlib.Core.Bool.{Bool, true, false, not, true≢false}
 use mathlib.Core.List.{List}
 use mathlib.Core.Path.{_≡_, refl, _∙_}
 use native.Mathlib.Omega.{arith}
-use native.Mathlib.Nat.{mod-lt}
 use lib.Dec.{eqb}
 use borrow.Author.Tests.{not-true}
 use Rattle.part.specs.Numbers.{mostBits, registerAddress, byteValues}
-use Rattle.part.specs.Cases.{some, odd}
+use Rattle.part.specs.Cases.{odd}
 use Rattle.part.specs.Lock.{lockedOf}
 use Rattle.part.specs.Page.{placeOf, nextInPage, nextInArray, byteAt}
 use Rattle.part.specs.declared.kinds.Kind.{Kind}
@@ -21,8 +20,7 @@ use Rattle.part.specs.declared.state.Device.{Device}
 use Rattle.part.specs.declared.state.Load.{Load}
 use Rattle.part.specs.declared.state.Place.{Place}
 use Rattle.part.proofs.Laws.{both-split}
-use Rattle.part.proofs.Known.{Sound}
-use Rattle.part.proofs.Places.{page-stays, array-stays, read-stays, lock-of-page}
+use Rattle.part.proofs.Places.{page-stays, lock-of-page}
 use Rattle.control.specs.Register.{readsOf}
 use Rattle.device.specs.Talk.{withTalk, withChosen, acknowledged, rested, sending, released, addressOf, matches}
 use Rattle.device.specs.Bytes.{slaveBy, slaveOf, highOf, addressBy, lowOf, takenOf, dataBy, registerBy, byteIn, byteOf}
@@ -43,7 +41,7 @@ takes Register = true
 takes Send = false
 takes SendRegister = false
 
-module _ (k : Kind) (q : Sound k) (n m : ℕ) (d : Device) (l : Load) (g : Talks k n d l) where
+module _ (k : Kind) (n m : ℕ) (d : Device) (l : Load) (g : Talks k n d l) where
   -- A device that stays in a phase that sends nothing, no acknowledge under way, while the bits go on.
   stayed : speaks (d .talk .phase) ≡ false → (n ≡ mostBits → waits (d .talk .phase) ≡ true) → Talks k m d l
   stayed h w =
@@ -52,24 +50,22 @@ module _ (k : Kind) (q : Sound k) (n m : ℕ) (d : Device) (l : Load) (g : Talks
         pends = g .pends;
         opens = g .opens;
         whole = g .whole;
-        inside = g .inside;
       }
 
   -- A talk that turns from a phase that takes no data leaves no byte pending and no mark.
   turned : (t : Talk) (p : Place) (b : Bool) → takes (d .talk .phase) ≡ false → (t .phase ≡ Register → b ≡ true)
-      → p .0 < k .size → Voice t m → Talks k m (record { talk = t; counter = p; control = withChosen (d .control) b }) l
-  turned t p b x z i v =
+      → Voice t m → Talks k m (record { talk = t; counter = p; control = withChosen (d .control) b }) l
+  turned t p b x z v =
       record {
         voice = v;
-        pends = record { phase = λ e. cc (g .pends .phase e); chosen = z; none = g .pends .none; stored = g .pends .stored };
+        pends = record { phase = λ e. cc (g .pends .phase e); chosen = z; none = g .pends .none };
         opens = λ e. absurd (true≢false (cc (g .opens e .phase)));
         whole = g .whole;
-        inside = i;
       }
 
   -- So does one that turns to such a phase with the counter and the choice staying.
   turns : (t : Talk) → takes (d .talk .phase) ≡ false → takes (t .phase) ≡ false → Voice t m → Talks k m (withTalk d t) l
-  turns t x y v = turned t (d .counter) (d .control .chosen) x (λ e. cc) (g .inside) v
+  turns t x y v = turned t (d .counter) (d .control .chosen) x (λ e. cc) v
 
   -- The part falls silent.
   hushed : takes (d .talk .phase) ≡ false → Talks k m (withTalk d (rested Silent)) l
@@ -95,7 +91,6 @@ module _ (k : Kind) (q : Sound k) (n m : ℕ) (d : Device) (l : Load) (g : Talks
         pends = g .pends;
         opens = λ e. record { phase = g .opens e .phase; latch = g .opens e .latch; unlocked = g .opens e .unlocked };
         whole = g .whole;
-        inside = g .inside;
       }
 
   -- A ninth fall of a read.
@@ -103,7 +98,7 @@ module _ (k : Kind) (q : Sound k) (n m : ℕ) (d : Device) (l : Load) (g : Talks
       → Talks k m (answeredBy b k array d) l
   answered-talks false array e c =
       turned (sending Send (byteAt array (d .counter))) (nextInArray k (d .counter)) (d .control .chosen) (cc) (λ x. cc)
-      (read-stays k (d .counter) (q .some)) (sends refl c refl)
+      (sends refl c refl)
   answered-talks true array e c = hushed (cc)
 
   -- A ninth fall, by phase.
@@ -129,9 +124,9 @@ module _ (k : Kind) (q : Sound k) (n m : ℕ) (d : Device) (l : Load) (g : Talks
   -- A whole address.
   address-talks : (b : Bool) (a : BusAddress) → d .talk .phase ≡ Low → m ≡ mostBits → Talks k m (addressBy b k d a) l
   address-talks true a e z =
-      turned (acknowledged Register) (d .counter) true (cc) (λ x. refl) (g .inside) (answers z refl refl refl)
+      turned (acknowledged Register) (d .counter) true (cc) (λ x. refl) (answers z refl refl refl)
   address-talks false a e z =
-      turned (acknowledged Data) (placeOf k a) false (cc) (λ x. cc) (mod-lt (a .0) (q .some)) (answers z refl refl refl)
+      turned (acknowledged Data) (placeOf k a) false (cc) (λ x. cc) (answers z refl refl refl)
 
   -- The register in a phase other than its own, left from the phase of array data.
   data-pends : (p : Phase) → d .talk .phase ≡ Data → (p ≡ Register → true ≡ false) → Pends p (d .control)
@@ -140,7 +135,6 @@ module _ (k : Kind) (q : Sound k) (n m : ℕ) (d : Device) (l : Load) (g : Talks
         phase = λ x. cc (g .pends .phase x);
         chosen = λ x. cc (h x);
         none = g .pends .none;
-        stored = g .pends .stored;
       }
 
   -- An array byte; one that is not taken comes with no mark set.
@@ -156,7 +150,6 @@ module _ (k : Kind) (q : Sound k) (n m : ℕ) (d : Device) (l : Load) (g : Talks
         pends = data-pends Data e (λ x. cc);
         opens = λ x. record { phase = refl; latch = h .0; unlocked = f ∙ u };
         whole = whole-filled l (d .counter) v (g .whole);
-        inside = array-stays (d .counter) (k .size) (q .whole) (g .inside);
       }
   data-talks false v e t z =
       record {
@@ -164,7 +157,6 @@ module _ (k : Kind) (q : Sound k) (n m : ℕ) (d : Device) (l : Load) (g : Talks
         pends = data-pends Silent e (λ x. cc);
         opens = λ x. absurd (true≢false (cc (g .opens x .latch, g .opens x .unlocked)));
         whole = g .whole;
-        inside = g .inside;
       }
 
   -- A register byte: the first pends, a second cancels it.
@@ -173,18 +165,16 @@ module _ (k : Kind) (q : Sound k) (n m : ℕ) (d : Device) (l : Load) (g : Talks
   register-talks true v e t z =
       record {
         voice = still (rested Silent) m refl refl refl;
-        pends = record { phase = λ x. cc; chosen = λ x. cc; none = λ x. refl; stored = g .pends .stored };
+        pends = record { phase = λ x. cc; chosen = λ x. cc; none = λ x. refl };
         opens = λ x. absurd (true≢false (cc (g .opens x .phase)));
         whole = g .whole;
-        inside = g .inside;
       }
   register-talks false v e t z =
       record {
         voice = answers z refl refl refl;
-        pends = record { phase = λ x. refl; chosen = λ x. g .pends .chosen e; none = λ x. cc; stored = g .pends .stored };
+        pends = record { phase = λ x. refl; chosen = λ x. g .pends .chosen e; none = λ x. cc };
         opens = λ x. absurd (true≢false (cc (g .opens x .phase)));
         whole = g .whole;
-        inside = g .inside;
       }
 
   -- A byte, by phase.
@@ -202,7 +192,7 @@ module _ (k : Kind) (q : Sound k) (n m : ℕ) (d : Device) (l : Load) (g : Talks
   byte-in Register s v e b z = register-talks (d .control .pending) v e refl z
   byte-in Send s v e b z = turns (rested Send) (cc) refl (rests (λ x. z) refl refl)
   byte-in SendRegister s v e b z =
-      turned (rested Silent) (d .counter) false (cc) (λ x. cc) (g .inside) (still (rested Silent) m refl refl refl)
+      turned (rested Silent) (d .counter) false (cc) (λ x. cc) (still (rested Silent) m refl refl refl)
 
   -- After a bit below the eighth.
   pub bit-talks : n < mostBits → m < mostBits → Talks k m (bitOf d) l

@@ -1,20 +1,14 @@
 -- Laws of the ranges of refusal 4: rules 1 and 2, a start and a stop keep the three times in theirs. Assumes nothing.
 use Prim.Native.Nat.{ℕ, zero, suc, _-_, _≤_}
 use mathlib.Core.Bool.{Bool, true, false}
-use mathlib.Core.Path.{_≡_}
 use native.Mathlib.Omega.{arith}
-use lib.Dec.{eqb, leb}
+use lib.Dec.{eqb}
 use lib.ListN.{getD}
-use borrow.Author.Tests.{lt-ltb, le-leb}
-use Rattle.part.specs.Numbers.{writeTime, resetHold, longWatch, mostSelect, mostBits}
-use Rattle.part.specs.Kind.{kindOf, known}
+use Rattle.part.specs.Numbers.{writeTime, resetHold, longWatch}
 use Rattle.part.specs.Timers.{off, watchTable, watchCode, loadedOf, writeFell, timedBy, timedOf, suppliedOf}
-use Rattle.part.specs.declared.state.State.{State}
 use Rattle.part.specs.declared.state.Timers.{Timers}
 use Rattle.part.specs.declared.state.Watchdog.{Watchdog}
-use Rattle.refusals.specs.Refusals.{inRange}
 use Rattle.sample.specs.Sample.{watched, begun}
-use Rattle.claims.proofs.Kept.Talks.{Talks}
 
 -- The three times in their ranges.
 pub record Times (t : Timers) : Type 0 where
@@ -67,19 +61,3 @@ watched-times stored t g = record { write = g .write; hold = g .hold; left = loa
 pub begun-times : (b : Bool) (t : Timers) → Times t → Times (begun b t)
 begun-times true t g = record { write = omega arith; hold = g .hold; left = g .left }
 begun-times false t g = g
-
--- The eight ranges, taken together.
-pub in-range : (s : State) → Talks (kindOf (s .part)) (s .wire .frame .bits) (s .device) (s .load)
-    → s .wire .frame .bits ≤ mostBits → Times (s .timers) → known (s .part) ≡ true → leb (s .select) mostSelect ≡ true
-    → inRange s ≡ true
-unfolding inRange
-in-range s g b t k c =
-    rw (
-      lt-ltb (s .device .counter .0) (kindOf (s .part) .size) (g .inside),
-      le-leb (s .wire .frame .bits) mostBits b,
-      le-leb (s .timers .write) writeTime (t .write),
-      le-leb (s .timers .hold) resetHold (t .hold),
-      le-leb (s .timers .watchdog .left) longWatch (t .left),
-      k,
-      c,
-    ) (g .pends .stored)

@@ -1,54 +1,42 @@
--- One sample keeps all that the reachable states keep, in one record that holds its parts together. Assumes nothing.
-use Prim.Native.Nat.{ℕ, _≤_}
+-- One sample keeps all that the reachable states keep beside the ranges, in one record that holds its parts together.
+-- Assumes nothing.
+use Prim.Native.Nat.{ℕ}
 use mathlib.Core.Bool.{Bool, true, false, true≢false}
 use mathlib.Core.List.{List}
 use mathlib.Core.Path.{_≡_, refl}
 use native.Mathlib.Omega.{arith}
-use lib.Dec.{leb}
-use Rattle.part.specs.Numbers.{mostSelect, mostBits}
 use Rattle.part.specs.Cases.{both}
-use Rattle.part.specs.Kind.{kindOf, known}
+use Rattle.part.specs.Kind.{kindOf}
 use Rattle.part.specs.Timers.{writes, timedOf, suppliedOf}
-use Rattle.part.specs.Page.{marked}
 use Rattle.part.specs.declared.state.Phase.the-variants.{Idle}
 use Rattle.part.specs.declared.state.Timers.{Timers}
 use Rattle.part.specs.declared.state.Wire.{Wire}
-use Rattle.part.specs.declared.state.Control.{Control}
 use Rattle.part.specs.declared.state.Device.{Device}
 use Rattle.part.specs.declared.state.Load.{Load}
 use Rattle.part.specs.declared.state.State.{State}
-use Rattle.part.proofs.Known.{kind-sound}
 use Rattle.wire.specs.Sign.{wireOf}
 use Rattle.wire.specs.declared.Sign.{Sign}
 use Rattle.wire.specs.declared.Sign.the-variants.{Quiet, Start, Stop, Bit, Byte, Ninth}
-use Rattle.control.specs.Register.{orderOf, takesTime}
-use Rattle.refusals.specs.Refusals.{storable}
 use Rattle.device.specs.Talk.{withControl}
 use Rattle.device.specs.Bytes.{byteOf, keptOf, bitOf, ninthOf}
 use Rattle.device.specs.Ends.{startedOf, dropped, stoppedOf, endedOf}
 use Rattle.sample.specs.Level.{sclOf, sdaOf, wpOf, vccOf}
-use Rattle.sample.specs.Sample.{withWire, begun, latchedBy, opensOf, resetOf, startOf, stopOf, byteStep, heardBy}
+use Rattle.sample.specs.Sample.{withWire, latchedBy, opensOf, resetOf, startOf, stopOf, byteStep, heardBy}
 use Rattle.sample.specs.Sample.{lineOf, seenOf, wiredOf, goesOnBy, stepOf}
 use Rattle.claims.proofs.Kept.Signs.{Saw, saw}
 use Rattle.claims.proofs.Kept.Talks.{Talks, fresh, start-talks, stop-talks}
 use Rattle.claims.proofs.Kept.Falls.{bit-talks, byte-talks, ninth-talks}
-use Rattle.claims.proofs.Kept.Ranges.{Times, timed-times, supplied-times, watched-times, begun-times}
 
--- All that is kept, together.
+-- All that is kept beside the ranges, together.
 pub record Sits (s : State) : Type 0 where
   pub talks : Talks (kindOf (s .part)) (s .wire .frame .bits) (s .device) (s .load)
-  pub bits : s .wire .frame .bits ≤ mostBits
-  pub times : Times (s .timers)
-  pub part : known (s .part) ≡ true
-  pub select : leb (s .select) mostSelect ≡ true
   pub line : s .device .talk .own ≡ false → s .wire .lines .scl ≡ true → s .wire .lines .sda ≡ false
 
 -- A fall of SCL keeps it where its device and load do.
-fallen : (s : State) (w : Wire) → Sits s → (d : Device) (l : Load) → w .frame .bits ≤ mostBits → w .lines .scl ≡ false
+fallen : (s : State) (w : Wire) (d : Device) (l : Load) → w .lines .scl ≡ false
     → Talks (kindOf (s .part)) (w .frame .bits) d l
     → Sits (record { part = s .part; select = s .select; timers = s .timers; wire = w; device = d; load = l })
-fallen s w g d l b c t =
-    record { talks = t; bits = b; times = g .times; part = g .part; select = g .select; line = λ x y. cc }
+fallen s w d l c t = record { talks = t; line = λ x y. cc }
 
 -- Each sign keeps it, on a wire as the sign says and with own SDA low seen on it.
 heard-sits : (sign : Sign) (wp : Bool) (array : List ℕ) (s : State) (w : Wire)
@@ -56,49 +44,31 @@ heard-sits : (sign : Sign) (wp : Bool) (array : List ℕ) (s : State) (w : Wire)
     → (s .device .talk .own ≡ false → w .lines .sda ≡ false) → Sits s → Sits (heardBy sign wp array (withWire s w))
 unfolding startOf startedOf stopOf stoppedOf byteStep
 heard-sits Quiet wp array s w e h g =
-    record {
-      talks = rw e (g .talks);
-      bits = omega arith;
-      times = g .times;
-      part = g .part;
-      select = g .select;
-      line = λ x y. h x;
-    }
+    record { talks = rw e (g .talks); line = λ x y. h x }
 heard-sits Start wp array s w e h g =
     record {
       talks =
           start-talks (kindOf (s .part)) (s .wire .frame .bits) (w .frame .bits) (s .device) (s .load) (g .talks)
           (writes (s .timers));
-      bits = omega arith;
-      times = watched-times (s .device .control .stored) (s .timers) (g .times);
-      part = g .part;
-      select = g .select;
       line = λ x y. cc;
     }
 heard-sits (Stop n) wp array s w e h g =
     record {
       talks = stop-talks (kindOf (s .part)) (s .wire .frame .bits) (w .frame .bits) (s .device) (s .load) (g .talks) wp;
-      bits = omega arith;
-      times =
-          begun-times (takesTime (orderOf wp (s .device .control))) (begun (marked (s .load)) (s .timers))
-          (begun-times (marked (s .load)) (s .timers) (g .times));
-      part = g .part;
-      select = g .select;
       line = λ x y. cc;
     }
 heard-sits Bit wp array s w e h g =
-    fallen s w g (bitOf (s .device)) (s .load) (omega arith) (e .2)
-    (bit-talks (kindOf (s .part)) (kind-sound (s .part) (g .part)) (s .wire .frame .bits) (w .frame .bits) (s .device)
-    (s .load) (g .talks) (e .1) (e .0))
+    fallen s w (bitOf (s .device)) (s .load) (e .2)
+    (bit-talks (kindOf (s .part)) (s .wire .frame .bits) (w .frame .bits) (s .device) (s .load) (g .talks) (e .1) (e .0))
 heard-sits (Byte v) wp array s w e h g =
-    fallen s w g (byteOf (kindOf (s .part)) (s .select) (s .device) v) (keptOf (kindOf (s .part)) (s .device) v (s .load))
-    (omega arith) (e .2)
-    (byte-talks (kindOf (s .part)) (kind-sound (s .part) (g .part)) (s .wire .frame .bits) (w .frame .bits) (s .device)
-    (s .load) (g .talks) (s .select) v (e .1) (e .0))
+    fallen s w (byteOf (kindOf (s .part)) (s .select) (s .device) v) (keptOf (kindOf (s .part)) (s .device) v (s .load))
+    (e .2)
+    (byte-talks (kindOf (s .part)) (s .wire .frame .bits) (w .frame .bits) (s .device) (s .load) (g .talks) (s .select) v
+    (e .1) (e .0))
 heard-sits (Ninth b) wp array s w e h g =
-    fallen s w g (ninthOf (kindOf (s .part)) array b (s .device)) (s .load) (omega arith) (e .1)
-    (ninth-talks (kindOf (s .part)) (kind-sound (s .part) (g .part)) (s .wire .frame .bits) (w .frame .bits) (s .device)
-    (s .load) (g .talks) b array (omega arith))
+    fallen s w (ninthOf (kindOf (s .part)) array b (s .device)) (s .load) (e .1)
+    (ninth-talks (kindOf (s .part)) (s .wire .frame .bits) (w .frame .bits) (s .device) (s .load) (g .talks) b array
+    (omega arith))
 
 -- Own SDA low is low on the line.
 pub low-line : (x own : Bool) → own ≡ false → both x own ≡ false
@@ -125,62 +95,24 @@ opened v t s =
       load = s .load;
     }
 
--- The stored bits stay whatever the supply.
-latched-stored : (v : Bool) (c : Control) → storable (c .stored) ≡ true → storable (latchedBy v c .stored) ≡ true
-latched-stored true c h = h
-latched-stored false c h = h
-
 -- Rules 3 and 4, by whether reset is active: with low VCC it is.
 opened-sits : (b v : Bool) (t : Timers) (level : ℕ) (array : List ℕ) (s : State) → opened v t s .timers .reset ≡ b
-    → Times t → Sits s → Sits (goesOnBy b level array (opened v t s))
+    → Sits s → Sits (goesOnBy b level array (opened v t s))
 unfolding suppliedOf resetOf endedOf
-opened-sits true v t level array s e h g =
+opened-sits true v t level array s e g =
     record {
       talks =
           fresh (kindOf (s .part)) 0 Idle (s .device .counter) (dropped (latchedBy v (s .device .control))) refl (λ x. cc)
-          (g .talks .inside) (latched-stored v (s .device .control) (g .talks .pends .stored)) refl refl;
-      bits = omega arith;
-      times = supplied-times v t h;
-      part = g .part;
-      select = g .select;
+          refl refl;
       line = λ x y. cc;
     }
-opened-sits false true t level array s e h g =
-    wired-sits level array (opened true t s)
-    (record {
-      talks = g .talks;
-      bits = g .bits;
-      times = supplied-times true t h;
-      part = g .part;
-      select = g .select;
-      line = g .line;
-    })
-opened-sits false false t level array s e h g = absurd (true≢false e)
+opened-sits false true t level array s e g =
+    wired-sits level array (opened true t s) (record { talks = g .talks; line = g .line })
+opened-sits false false t level array s e g = absurd (true≢false e)
 
 -- A sample keeps it.
 pub step-sits : (e level : ℕ) (array : List ℕ) (s : State) → Sits s → Sits (stepOf e level array s)
 unfolding stepOf opensOf
 step-sits e level array s g =
     opened-sits (opensOf e level s .timers .reset) (vccOf level) (timedOf (s .device .control .stored) e (s .timers)) level
-    array s refl (timed-times (s .device .control .stored) e (s .timers) (g .times)) g
-
--- Each sign leaves the part number as it was.
-heard-part : (sign : Sign) (wp : Bool) (array : List ℕ) (s : State) → heardBy sign wp array s .part ≡ s .part
-unfolding startOf stopOf byteStep
-heard-part Quiet wp array s = refl
-heard-part Start wp array s = refl
-heard-part (Stop n) wp array s = refl
-heard-part Bit wp array s = refl
-heard-part (Byte v) wp array s = refl
-heard-part (Ninth b) wp array s = refl
-
--- So does rule 3 or 4.
-goes-part : (b : Bool) (level : ℕ) (array : List ℕ) (s : State) → goesOnBy b level array s .part ≡ s .part
-unfolding resetOf wiredOf
-goes-part true level array s = refl
-goes-part false level array s = heard-part (seenOf level s) (wpOf level) array (wiredOf level s)
-
--- A sample leaves the part number.
-pub step-part : (e level : ℕ) (array : List ℕ) (s : State) → stepOf e level array s .part ≡ s .part
-unfolding stepOf opensOf
-step-part e level array s = goes-part (opensOf e level s .timers .reset) level array (opensOf e level s)
+    array s refl g

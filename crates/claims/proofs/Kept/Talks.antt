@@ -6,9 +6,8 @@ use mathlib.Core.List.{List, [], _∷_}
 use mathlib.Core.Path.{_≡_, refl, sym, _∙_}
 use native.Mathlib.Omega.{arith}
 use lib.ListN.{length, set, length-set}
-use borrow.Author.Tests.{eq-eqb}
 use Rattle.part.specs.Numbers.{mostBits}
-use Rattle.part.specs.Cases.{some, highest, middle}
+use Rattle.part.specs.Cases.{some, highest}
 use Rattle.part.specs.Page.{inPage, emptyLoad, marked, filledOf}
 use Rattle.part.specs.declared.kinds.Kind.{Kind}
 use Rattle.part.specs.declared.state.Phase.{Phase}
@@ -18,10 +17,7 @@ use Rattle.part.specs.declared.state.Control.{Control}
 use Rattle.part.specs.declared.state.Device.{Device}
 use Rattle.part.specs.declared.state.Load.{Load}
 use Rattle.part.specs.declared.state.Place.{Place}
-use Rattle.control.specs.declared.Order.{Order}
-use Rattle.control.specs.declared.Order.the-variants.{SetWel, ClearWel, SetRwel, Take, Nothing}
-use Rattle.control.specs.Register.{plainOf, orderOf, carriedOut}
-use Rattle.refusals.specs.Refusals.{storable}
+use Rattle.control.specs.Register.{orderOf, carriedOut}
 use Rattle.device.specs.Talk.{nonePends, rested, released}
 use Rattle.device.specs.Ends.{startedOf, dropped, stoppedOf}
 use Rattle.claims.specs.Reachable.{waits, speaks, Loading, KeptLoad}
@@ -37,7 +33,6 @@ pub record Pends (p : Phase) (c : Control) : Type 0 where
   pub phase : c .pending ≡ true → p ≡ Register
   pub chosen : p ≡ Register → c .chosen ≡ true
   pub none : c .pending ≡ false → c .value ≡ 0
-  pub stored : storable (c .stored) ≡ true
 
 -- All of it together.
 pub record Talks (k : Kind) (n : ℕ) (d : Device) (l : Load) : Type 0 where
@@ -45,7 +40,6 @@ pub record Talks (k : Kind) (n : ℕ) (d : Device) (l : Load) : Type 0 where
   pub pends : Pends (d .talk .phase) (d .control)
   pub opens : marked l ≡ true → Loading k d
   pub whole : KeptLoad l
-  pub inside : d .counter .0 < k .size
 
 -- A talk that sends nothing and pulls nothing low.
 pub still : (t : Talk) (n : ℕ) → speaks (t .phase) ≡ false → t .out ≡ 0 → t .own ≡ true → Voice t n
@@ -80,40 +74,26 @@ whole-filled l p v w =
       empty = λ e. absurd (true≢false (sym (some-set (l .marks) (inPage p) (omega arith)) ∙ e));
     }
 
--- The stored bits that an order leaves.
-order-stored : (o : Order) (c : Control) → storable (c .stored) ≡ true → storable (carriedOut o c .stored) ≡ true
-unfolding carriedOut
-order-stored SetWel c h = h
-order-stored ClearWel c h = h
-order-stored SetRwel c h = h
-order-stored Take c h = eq-eqb (middle (plainOf (c .value))) 0 (omega arith)
-order-stored Nothing c h = h
-
 -- A device that rests in a phase that sends nothing, no byte pending, its load empty.
 pub fresh : (k : Kind) (n : ℕ) (p : Phase) (c : Place) (r : Control) → speaks p ≡ false → (p ≡ Register → true ≡ false)
-    → c .0 < k .size → storable (r .stored) ≡ true → r .pending ≡ false → r .value ≡ 0
-    → Talks k n (record { talk = rested p; counter = c; control = r }) emptyLoad
-fresh k n p c r h x i t y z =
+    → r .pending ≡ false → r .value ≡ 0 → Talks k n (record { talk = rested p; counter = c; control = r }) emptyLoad
+fresh k n p c r h x y z =
     record {
       voice = still (rested p) n h refl refl;
-      pends = record { phase = λ e. cc; chosen = λ e. cc (x e); none = λ e. z; stored = t };
+      pends = record { phase = λ e. cc; chosen = λ e. cc (x e); none = λ e. z };
       opens = λ e. absurd (true≢false (sym e));
       whole = record { bytes = refl; marks = refl; empty = λ e. refl };
-      inside = i;
     }
 
 module _ (k : Kind) (n m : ℕ) (d : Device) (l : Load) (g : Talks k n d l) where
   -- After a start.
   pub start-talks : (writing : Bool) → Talks k m (startedOf writing d) emptyLoad
   unfolding startedOf
-  start-talks true =
-      fresh k m Silent (d .counter) (nonePends (d .control)) refl (λ e. cc) (g .inside) (g .pends .stored) refl refl
-  start-talks false =
-      fresh k m Slave (d .counter) (nonePends (d .control)) refl (λ e. cc) (g .inside) (g .pends .stored) refl refl
+  start-talks true = fresh k m Silent (d .counter) (nonePends (d .control)) refl (λ e. cc) refl refl
+  start-talks false = fresh k m Slave (d .counter) (nonePends (d .control)) refl (λ e. cc) refl refl
 
   -- After a stop.
   pub stop-talks : (wp : Bool) → Talks k m (stoppedOf wp d) emptyLoad
   unfolding stoppedOf
   stop-talks wp =
-      fresh k m Idle (d .counter) (dropped (carriedOut (orderOf wp (d .control)) (d .control))) refl (λ e. cc) (g .inside)
-      (order-stored (orderOf wp (d .control)) (d .control) (g .pends .stored)) refl refl
+      fresh k m Idle (d .counter) (dropped (carriedOut (orderOf wp (d .control)) (d .control))) refl (λ e. cc) refl refl
