@@ -1,0 +1,239 @@
+"""Bus traffic for tests/sigrok: a host that gives samples, and what the rules say of every byte it sends or reads."""
+SIZE, PAGE, WRITE_TIME = 4096, 64, 5000
+REGISTER = 0xFFFF
+
+
+class Part:
+    """What the rules say of whole bytes. It knows no bits and no samples: those are the program's and the decoder's task."""
+
+    def __init__(self, select, stored, array):
+        self.slave, self.control, self.array = 0x50 | select, stored, bytearray(array)
+        self.counter, self.wel, self.rwel, self.busy_until, self.chosen = 0, False, False, 0, False
+        self.mode, self.load, self.pending = "idle", {}, None
+
+    def locked(self, place):
+        code = (self.control & 1) << 2 | self.control >> 3 & 3
+        return place < PAGE * {3: 64, 4: 1, 5: 2, 6: 4, 7: 8}.get(code, 0)
+
+    def register(self):
+        return self.control | self.rwel << 2 | self.wel << 1
+
+    def start(self, now):
+        self.load, self.pending = {}, None
+        self.mode = "slave" if now >= self.busy_until else "silent"
+
+    def take(self, value):
+        """A byte of the host; answers whether it is acknowledged."""
+        mode, self.mode = self.mode, "silent"
+        if mode == "slave" and value >> 1 == self.slave:
+            self.mode = "read" if value & 1 else "high"
+        elif mode == "high":
+            self.mode, self.high = "low", value
+        elif mode == "low":
+            self.mode, address = "data", self.high << 8 | value
+            self.chosen = address == REGISTER
+            self.counter = self.counter if self.chosen else address % SIZE
+        elif mode == "data" and self.chosen:
+            self.mode, self.pending = ("data", value) if self.pending is None else ("silent", None)
+        elif mode == "data" and self.wel and not self.locked(self.counter):
+            self.mode, self.load[self.counter] = "data", value
+            self.counter = self.counter - self.counter % PAGE + (self.counter + 1) % PAGE
+        return self.mode != "silent"
+
+    def give(self, more):
+        """A byte for the host, who acknowledges it if there shall be more."""
+        if self.mode != "read":
+            return 0xFF
+        self.mode = "read" if more and not self.chosen else "silent"
+        if self.chosen:
+            self.chosen = False
+            return self.register()
+        value = self.array[self.counter]
+        self.counter = (self.counter + 1) % SIZE
+        return value
+
+    def stop(self, now, wp):
+        for place, value in self.load.items():
+            self.array[place] = value
+            self.busy_until = now + WRITE_TIME
+        value = self.pending
+        if value is not None and not self.rwel:
+            self.wel = {0x02: True, 0x00: False}.get(value, self.wel)
+            self.rwel = value == 0x06 and self.wel
+        elif value is not None and value & 0x06 == 0x02 and not (wp and self.control & 0x80):
+            self.control, self.rwel, self.busy_until = value & 0xF9, False, now + WRITE_TIME
+        self.mode, self.load, self.pending, self.chosen = "idle", {}, None, False
+
+
+class Host:
+    """A bus master that writes down its samples, the events that the rules give, and its operations on the array."""
+
+    def __init__(self, rng, part):
+        self.rng, self.part, self.wp, self.now = rng, part, 0, 0
+        self.elapsed, self.levels, self.times = [], [], []
+        self.events, self.operations, self.sent, self.reading = [], [], None, False
+        for microseconds in (1, 100_000, 100_000, 7):  # Power is good from the first on; the third ends reset.
+            self.lines(1, 1, microseconds)
+
+    def lines(self, scl, sda, elapsed=None):
+        elapsed = elapsed or self.rng.choice((1, 1, 1, 2, 3, 6))
+        self.now += elapsed
+        self.scl = scl
+        self.elapsed.append(elapsed)
+        self.levels.append(scl | sda << 1 | self.wp << 2 | 8)
+        self.times.append(self.now)
+        return len(self.times) - 1
+
+    def event(self, text, places, value=None):
+        """An event at the first of the samples by which it is known; {} in the text stands for a value in hexadecimal."""
+        self.events.append((text, places, value))
+
+    def start(self, at=0):
+        if not self.scl:
+            self.lines(0, 1)
+            self.lines(1, 1)
+        place = self.lines(1, 0, max(0, at - self.now))
+        self.event("Start" if self.sent is None else "Start repeat", [place])
+        self.part.start(self.now)
+        self.sent = 0
+        self.lines(0, 0)
+
+    def stop(self):
+        self.lines(0, 0)
+        self.lines(1, 0)
+        self.event("Stop", [self.lines(1, 1)])
+        self.part.stop(self.now, self.wp)
+        self.sent = None
+
+    def clock(self, level):
+        if self.rng.random() < 0.05:
+            self.lines(0, 1 - level)  # While SCL is low, SDA may move to and fro.
+        self.lines(0, level)
+        rise = self.lines(1, level)
+        if self.rng.random() < 0.05:
+            self.lines(1, level)
+        self.lines(0, level)
+        return rise
+
+    def send(self, value):
+        places = [self.clock(value >> bit & 1) for bit in range(7, -1, -1)]
+        if self.sent == 0:
+            self.reading = value & 1
+        where = "read" if self.reading else "write"
+        self.event(f"Data {where}: {{}}" if self.sent else f"Address {where}: {{}}", places, value if self.sent else value >> 1)
+        self.sent += 1
+        taken = self.part.take(value)
+        self.event("ACK" if taken else "NACK", [self.clock(1)], not taken)
+        return taken
+
+    def receive(self, more):
+        value = self.part.give(more)
+        self.event("Data read: {}", [self.clock(1) for _ in range(8)], value)
+        self.event("ACK" if more else "NACK", [self.clock(not more)], not more)
+        self.sent += 1
+        return value
+
+    def write(self, address, data, stop=True, slave=None, go_on=False):
+        self.start()
+        slave = self.part.slave << 1 if slave is None else slave
+        for value in (slave, address >> 8, address & 255):
+            if not self.send(value) and not go_on:
+                break
+        else:
+            places = []
+            for value in data:
+                places.append(self.part.counter)
+                if not self.send(value) and not go_on:
+                    break
+            if stop:
+                self.operations.append(("write", address, places, bytes(data)))
+        if stop:
+            self.stop()
+
+    def read(self, count, address=None, slave=None):
+        if address is not None:
+            self.write(address, [], stop=False)
+        self.start()
+        places, data = [], []
+        if self.send((self.part.slave if slave is None else slave) << 1 | 1) or slave is not None:
+            for left in range(count - 1, -1, -1):
+                places.append(self.part.counter)
+                data.append(self.receive(left > 0))
+            self.operations.append(("current" if address is None else "read", address, places, bytes(data)))
+        self.stop()
+
+    def poll(self, at=0, stop=True):
+        self.start(at)
+        self.operations.append(("poll", None, [], self.send(self.part.slave << 1)))
+        if stop or self.part.mode != "silent":
+            self.stop()
+
+    def ready(self):
+        """Polls a write under way to its end, or waits for it; now and then a poll comes just before or just at the end."""
+        end, how = self.part.busy_until, self.rng.randrange(4)
+        while how and end > self.now + 900:
+            self.poll(self.now + self.rng.randint(20, 700), self.rng.random() < 0.5 or end < self.now + 2500)
+            if self.sent is None and self.rng.random() < 0.3:
+                break
+        if self.sent is not None:
+            self.stop()
+        if end > self.now + 20:
+            self.poll(end - 1 if how == 1 else end)
+        if end > self.now:
+            self.lines(1, 1, end - self.now)
+
+
+def address_near(rng):
+    """Any address, and often one shortly before the end of a page or of the array."""
+    return rng.choice((rng.randrange(SIZE), rng.randrange(64) * PAGE + rng.randint(52, 63), SIZE - rng.randint(1, 12),
+                       rng.randrange(8 * PAGE)))
+
+
+def some(rng, most):
+    return rng.choice((1, 1, 2, 3, rng.randint(2, 20), rng.randint(2, most)))
+
+
+def sound(host, rng):
+    if not host.part.wel:
+        return host.write(REGISTER, [0x02])
+    what = rng.randrange(6)
+    if what < 2:
+        host.write(address_near(rng), rng.randbytes(some(rng, 70)))
+        host.ready()
+    elif what < 4:
+        host.read(some(rng, 90), address_near(rng))
+    else:
+        host.read(1 if what == 4 else some(rng, 90))
+
+
+def mixed(host, rng):
+    part, what = host.part, rng.randrange(14)
+    host.wp = rng.randrange(2)
+    other = rng.choice([slave for slave in range(128) if slave != part.slave] + [part.slave ^ 1 << bit for bit in range(7)] * 9)
+    if what < 4:
+        host.write(address_near(rng) | rng.choice((0, 0, 0x1000, 0xE000)), rng.randbytes(some(rng, 70)), go_on=rng.random() < 0.3)
+    elif what == 4:
+        host.read(some(rng, 90), address_near(rng))
+    elif what == 5:
+        host.read(some(rng, 30))
+    elif what == 6:
+        host.read(rng.choice((1, 1, 3)), REGISTER)
+    elif what == 7:
+        host.write(REGISTER, [rng.choice((0x00, 0x02, 0x06, 0x06, rng.randrange(256)))])
+    elif what == 8:
+        for value in (0x02, 0x06, rng.randrange(256) & rng.choice((0xF9, 0x60)) | rng.choice((2, 2, 2, 6, 0))):
+            host.write(REGISTER, [value])
+    elif what == 9:
+        host.write(REGISTER, rng.randbytes(rng.randint(2, 3)), go_on=rng.random() < 0.5)
+    elif what == 10:
+        host.write(address_near(rng), rng.randbytes(3), slave=other << 1, go_on=rng.random() < 0.5)
+    elif what == 11:
+        host.read(rng.randint(1, 3), slave=other)
+    elif what == 12:
+        host.write(rng.choice((REGISTER, address_near(rng))), [], stop=True)
+    else:  # A start instead of the stop: what was loaded, or the register byte, is dropped.
+        host.write(rng.choice((REGISTER, address_near(rng))), rng.randbytes(rng.randint(1, 3)), stop=False)
+        host.read(some(rng, 5))
+    host.wp = rng.randrange(2)
+    if rng.random() < 0.8:
+        host.ready()
