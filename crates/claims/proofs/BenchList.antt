@@ -28,20 +28,20 @@ bench-cases =
       p3 = p3;
       p4 = p4;
       p5 = (
-        record { taken = refl; page = refl; counter = refl; next = refl; steps = refl },
-        record { taken = refl; page = refl; counter = refl; next = refl; steps = refl },
+        record { taken = (refl, refl); page = refl; counter = refl; next = refl; steps = refl },
+        record { taken = (refl, refl); page = refl; counter = refl; next = refl; steps = refl },
       );
       p6 = (
-        record { taken = refl; writes = refl; reads = refl; select = refl; code = refl },
-        record { taken = refl; writes = refl; reads = refl; select = refl; code = refl },
+        record { taken = (refl, refl, refl, refl); writes = refl; reads = refl; select = refl; code = refl },
+        record { taken = (refl, refl, refl, refl); writes = refl; reads = refl; select = refl; code = refl },
       );
       p7 = (
         record { watchdog = refl; block = refl; reads = refl; taken = refl; bus = refl },
         record { watchdog = refl; block = refl; reads = refl; taken = refl; bus = refl },
       );
       p8 = (
-        record { taken = refl; before = refl; same = refl; time = refl },
-        record { taken = refl; before = refl; same = refl; time = refl },
+        record { taken = refl; before = refl; same = refl; time = refl; array = refl },
+        record { taken = refl; before = refl; same = refl; time = refl; array = refl },
       );
       p9 = (record { taken = refl; last = refl }, record { taken = refl; last = refl });
       p10 = p10;

@@ -15,6 +15,7 @@ demand-1 =
           (x .reply ∙ v, x .state ∙ rw v, x .kept ∙ rw v, x .said ∙ rw v);
       read-image = λ text array r array′ k p x v. (x .reply ∙ rw v, x .kept ∙ rw v);
       write-image = λ array out r out′ k p x v. (x .reply ∙ v, x .said ∙ rw v);
-      tidy = λ text out r out′ k p x v. x .shown ∙ rw v;
+      tidy = λ text out r out′ k p x v. (x .count ∙ rw v, x .shown ∙ rw v);
+      size = λ part r x v. x .said ∙ rw v;
       only = λ s es ls array row r array′ row′ k p x e. sym (x .reply) ∙ e;
     }

@@ -10,6 +10,7 @@ use Rattle.part.specs.Timers.{loadedOf, timedOf, suppliedOf}
 use Rattle.part.specs.Lock.{extentOf, lockedOf}
 use Rattle.part.specs.Page.{storeOf}
 use Rattle.wire.specs.Sign.{fallSign, fallFrame, signOf, wireOf}
+use Rattle.refusals.specs.Refusals.{inRange, judgedOf}
 use Rattle.control.specs.Register.{orderOf, carriedOut}
 use Rattle.device.specs.Bytes.{slaveOf, highOf, lowOf, takenOf, byteOf, keptOf, bitOf, ninthOf}
 use Rattle.device.specs.Ends.{startedOf, stoppedOf, endedOf}
@@ -32,7 +33,7 @@ set-equal-but xs a v w =
 
 -- The runs of demand 3.
 pub occurs : Occurs
-unfolding poweredUp partStep stepOf arrayOf opensOf resetOf startOf stopOf byteStep seenOf wiredOf answerOf
+unfolding inRange judgedOf poweredUp partStep stepOf arrayOf opensOf resetOf startOf stopOf byteStep seenOf wiredOf answerOf
     sentOf covers lowestFirst readsAnew keepsWithheld kindOf loadedOf timedOf suppliedOf extentOf lockedOf storeOf
     fallSign fallFrame signOf wireOf orderOf carriedOut slaveOf highOf lowOf takenOf byteOf keptOf bitOf ninthOf
     startedOf stoppedOf endedOf
@@ -40,13 +41,16 @@ occurs =
     record {
       arrays = set-equal-but (replicate smallSize 0xFF) spot 0x4C 0x5C;
       size = refl;
-      read = record { reached = refl; differ = refl; covered = refl; demanded = refl };
-      other = record { reached = refl; differ = refl; covered = refl; demanded = refl };
-      write = record { reached = refl; differ = refl; covered = refl; demanded = refl };
-      unset = record { reached = refl; differ = refl; covered = refl; demanded = refl };
-      locked = record { reached = refl; differ = refl; covered = refl; demanded = refl };
-      before = record { reached = refl; differ = refl; covered = refl; demanded = refl };
-      cut = record { reached = refl; differ = refl; covered = refl; demanded = refl };
+      read = record { taken = refl; reached = refl; differ = refl; covered = refl; demanded = refl };
+      other = record { taken = refl; reached = refl; differ = refl; covered = refl; demanded = refl };
+      write = record { taken = refl; reached = refl; differ = refl; covered = refl; demanded = refl };
+      unset = record { taken = refl; reached = refl; differ = refl; covered = refl; demanded = refl };
+      locked = record { taken = refl; reached = refl; differ = refl; covered = refl; demanded = refl };
+      before = record { taken = refl; reached = refl; differ = refl; covered = refl; demanded = refl };
+      passed = record { taken = refl; reached = refl; differ = refl; covered = refl; demanded = refl };
+      from = (refl, refl);
+      covering = (refl, refl);
+      cut = record { taken = refl; reached = refl; differ = refl; covered = refl; demanded = refl };
       held = (refl, refl);
       lowest = record { differ = refl; fails = refl };
       lowest-spares = refl;

@@ -1,4 +1,6 @@
--- The bench cases P1 to P9, and all eleven in one list (document 01, Bench cases); those of images stand in ImageCases.
+-- The bench cases in one list (document 01, Bench cases). Those of captures are said of a part that has just been powered up, with select 0,
+-- stored byte 00h and an array all FFh, WP low throughout: what it answers and heldReset after traffic that a replay accepts. Those of the lock are
+-- said of every kind of part. Those of images stand in ImageCases.
 use Prim.Native.Nat.{ℕ, _-_, _%_}
 use mathlib.Core.Bool.{Bool, true, false}
 use mathlib.Core.List.{List, [], _∷_, _++_}
@@ -28,7 +30,7 @@ pub record Expects (place : ℕ) (d : Device) : Type 0 where
   pub latch : d .control .wel ≡ true
   pub counter : d .counter ≡ at place
 
--- A block code locks a place or not, and so its data byte is left without acknowledge or gets it (Bench cases, P2 to P4).
+-- A block code locks a place or not, and so SDA stays high after a data byte there, or is pulled low (Bench cases, P2 to P4).
 pub record Locks (k : Kind) (code place : ℕ) (locked : Bool) : Type 0 where
   pub extent : (stored : ℕ) → blockCode stored ≡ code → lockedOf k stored (at place) ≡ locked
   pub answer : (select v : ℕ) (d : Device) → blockCode (d .control .stored) ≡ code → Expects place d
@@ -70,14 +72,14 @@ Accepted part ms =
     ≡ accepted (length (joined ms .levels))
 
 -- Four samples of good VCC: the first, then 100,000 + 99,999, then 1 (State and time, 1 and 2).
-abbrev pub holds : List Capture
-holds = wait 100000 ∷ wait 100000 ∷ wait 99999 ∷ wait 1 ∷ []
+abbrev pub heldReset : List Capture
+heldReset = wait 100000 ∷ wait 100000 ∷ wait 99999 ∷ wait 1 ∷ []
 
 -- After the first good-VCC sample 100,000 + 99,999 keeps reset, and 1 more ends it: the bit of the RESET pin (Bench cases, P1).
 pub record P1 : Type 0 where
-  pub taken : Accepted x4323 holds × Accepted x4325 holds
-  pub low : answers x4323 holds ≡ 1 ∷ 1 ∷ 1 ∷ 3 ∷ []
-  pub high : answers x4325 holds ≡ 3 ∷ 3 ∷ 3 ∷ 1 ∷ []
+  pub taken : Accepted x4323 heldReset × Accepted x4325 heldReset
+  pub low : answers x4323 heldReset ≡ 1 ∷ 1 ∷ 1 ∷ 3 ∷ []
+  pub high : answers x4325 heldReset ≡ 3 ∷ 3 ∷ 3 ∷ 1 ∷ []
 
 -- The last so many answers of a row.
 abbrev pub lastAnswers : ℕ → List ℕ → List ℕ
@@ -93,19 +95,23 @@ wrapped = (5 ∷ 6 ∷ 7 ∷ 8 ∷ 9 ∷ 10 ∷ 11 ∷ 12 ∷ []) ++ replicate 5
 
 -- They fill 60 to 63 and 0 to 7, and the counter is at 8; in the next page it is the same (Bench cases, P5).
 pub record P5 (part : ℕ) : Type 0 where
-  pub taken : Accepted part (twelve 0x03C)
+  pub taken : Accepted part (twelve 0x03C) × Accepted part (twelve 0x07C)
   pub page : partOf part (twelve 0x03C) .array ≡ wrapped ++ replicate 4032 0xFF
   pub counter : partOf part (twelve 0x03C) .state .device .counter ≡ at 8
   pub next : partOf part (twelve 0x07C) .array ≡ replicate 64 0xFF ++ wrapped ++ replicate 3968 0xFF
   pub steps : partOf part (twelve 0x07C) .state .device .counter ≡ at 0x048
 
--- The last four answers to a slave byte: from its eighth fall to its ninth, which releases SDA (Bytes on the wire, after a start).
+-- A start and a slave byte (Bytes on the wire, after a start).
+abbrev pub calls : ℕ → List Capture
+calls v = awake ++ (start ∷ sent v ∷ [])
+
+-- The last four answers to it: from its eighth fall to its ninth, which ends the acknowledge; after A1h the first bit of FFh is out.
 abbrev pub toSlave : ℕ → ℕ → List ℕ
-toSlave part v = lastAnswers 4 (answers part (awake ++ (start ∷ sent v ∷ [])))
+toSlave part v = lastAnswers 4 (answers part (calls v))
 
 -- Select 0 answers A0h and A1h, not A2h or A8h: `low` is the answer byte with SDA low, `high` with SDA high (Bench cases, P6).
 pub record P6 (part low high : ℕ) : Type 0 where
-  pub taken : Accepted part (awake ++ (start ∷ sent 0xA0 ∷ []))
+  pub taken : Accepted part (calls 0xA0) × Accepted part (calls 0xA1) × Accepted part (calls 0xA2) × Accepted part (calls 0xA8)
   pub writes : toSlave part 0xA0 ≡ low ∷ low ∷ low ∷ high ∷ []
   pub reads : toSlave part 0xA1 ≡ low ∷ low ∷ low ∷ high ∷ []
   pub select : toSlave part 0xA2 ≡ high ∷ high ∷ high ∷ high ∷ []
@@ -145,6 +151,7 @@ pub record P8 (part : ℕ) : Type 0 where
   pub before : partOf part (awake ++ ordered 0x02 ++ ordered 0x06) .state .device .control ≡ latched
   pub same : partOf part (three 0x02 0x06 0x67) .state .device .control ≡ latched
   pub time : partOf part (three 0x02 0x06 0x67) .state .timers .write ≡ 0
+  pub array : partOf part (three 0x02 0x06 0x67) .array ≡ replicate (kindOf part .size) 0xFF
 
 -- A byte written, then 4,999 and 1 more (Bytes on the wire, stop).
 abbrev pub written5000 : List Capture

@@ -61,7 +61,7 @@ coveredUnder (sample k) step es ls p q =
     (alike (arrayUnder step (take (suc k) es) (take (suc k) ls) p) (arrayUnder step (take (suc k) es) (take (suc k) ls) q))
     (alike (answersUnder step es ls p) (answersUnder step es ls q))
 
--- Demand 3 of a step, but for what it says of states and of answer bits other than SDA: where the answers first differ, and covering writes.
+-- Of demand 3 only what can be told from answers and arrays: where the answers first differ, and what a covering write makes alike.
 abbrev pub holdsFor : Step → ℕ → List ℕ → List ℕ → Part → Part → Bool
 holdsFor step a es ls p q =
     both

@@ -5,14 +5,17 @@
 use Prim.Native.Nat.{ℕ}
 use mathlib.Core.List.{List, _++_}
 use mathlib.Core.Path.{_≡_}
-use lib.ListN.{drop}
+use lib.ListN.{length, drop}
+use mathlib.Core.Bool.{false}
+use Rattle.part.specs.Kind.{known}
 use Rattle.part.specs.Numbers.{x4323}
 use Rattle.part.specs.declared.state.State.{State}
 use Rattle.refusals.specs.Refusals.{refused, meant, powerOf, judgedOf}
 use Rattle.refusals.specs.declared.Reply.{Reply}
 use Rattle.twin.specs.declared.replays.Replayed.{Replayed}
-use Rattle.twin.specs.Power.{poweredUp}
-use Rattle.twin.specs.Promises.{PowersUp, Replays}
+use Rattle.twin.specs.declared.power.Size.{Size}
+use Rattle.twin.specs.Power.{poweredUp, sizeMeant}
+use Rattle.twin.specs.Promises.{PowersUp, Replays, SizesPart}
 use Rattle.image.specs.Form.{imageSize}
 use Rattle.image.specs.Reading.{bad, readingOf}
 use Rattle.image.specs.Promises.{imageOf, writeVerdict, ReadsImage, WritesImage}
@@ -31,7 +34,9 @@ pub record Demand1 : Type 0 where
   pub write-image : (array out : List ℕ) (r : Reply) (out′ : List ℕ) (k p : ℕ)
       → WritesImage array out r out′ → writeVerdict array out ≡ refused k p → (meant r ≡ refused k p) × (out′ ≡ out)
   pub tidy : (text out : List ℕ) (r : ℕ) (out′ : List ℕ) (k p : ℕ)
-      → Starts (shownOf text) out r out′ → readingOf imageSize text ≡ bad k p → out′ ≡ refusalLine k p ++ drop r out
-  -- and a refusal is never said without one
+      → Starts (shownOf text) out r out′ → readingOf imageSize text ≡ bad k p
+      → (r ≡ length (refusalLine k p)) × (out′ ≡ refusalLine k p ++ drop r out)
+  pub size : (part : ℕ) (r : Size) → SizesPart part r → known part ≡ false → sizeMeant r ≡ refused 1 0
+  -- a replay says a refusal only where the table has it
   pub only : (s : State) (es ls array row : List ℕ) (r : Replayed) (array′ row′ : List ℕ) (k p : ℕ)
       → Replays s es ls array row r array′ row′ → meant (r .reply) ≡ refused k p → judgedOf s es ls array row ≡ refused k p

@@ -1,4 +1,4 @@
--- Demand 2 (document 01, What goes in and what comes out; State and time, each sample). For every capture that is
+-- Demand 2, of captures; of images it is RoundTrip (document 01, What goes in and what comes out; State and time, each sample). For every capture that is
 -- accepted, and every outcome that keeps the replay's promise: the state, the array and the answer row are those that
 -- one sample's rule gives, applied to the samples one after another; each answer is that of the part after the samples
 -- up to its own; and the count is the length of the rows. Two pieces of a capture that are accepted one after the

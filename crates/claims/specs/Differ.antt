@@ -69,7 +69,7 @@ sendsFrom a (sends b v n) = eqb b a
 abbrev pub fetches : ℕ → ℕ → ℕ → Part → Bool
 fetches a e level p = sendsFrom a (sentOf e level p nothing)
 
--- The address lies in the page that a stop writes, and its mark is set (Bytes on the wire, stop).
+-- Not in reset, only at a stop, and there if the address lies in the page written and its mark is set (Bytes on the wire, stop).
 abbrev pub coversBy : Bool → Sign → ℕ → State → Bool
 coversBy true sign a s = false
 coversBy false Quiet a s = false
@@ -84,7 +84,7 @@ unfoldable pub covers : ℕ → ℕ → ℕ → Part → Bool
 covers a e level p =
     coversBy (opensOf e level (p .state) .timers .reset) (seenOf level (opensOf e level (p .state))) a (p .state)
 
--- A sample that fetches from the address before any that covers it, one that covers it, or what the later ones say (demand 3).
+-- A fetch from the address before any cover: never; a cover: this sample; else what the later ones say (demand 3).
 abbrev pub firstCoverBy : Bool → Bool → ℕ → When → When
 firstCoverBy true c i later = never
 firstCoverBy false true i later = sample i
@@ -130,7 +130,7 @@ silenced s =
       load = s .load;
     }
 
--- What is being sent is no byte fetched from the address, so that two such states are equal (demand 3).
+-- Nothing is being sent, or a byte fetched elsewhere (demand 3).
 abbrev pub elsewhere : ℕ → Sent → Bool
 elsewhere a g = not (sendsFrom a g)
 
@@ -154,7 +154,7 @@ pub record Alike (a : ℕ) (es ls : List ℕ) (p q : Part) : Type 0 where
   pub equal : elsewhere a (sentAfter es ls p nothing) ≡ true → runOf es ls p .state ≡ runOf es ls q .state
   pub arrays : EqualBut a (runOf es ls p .array) (runOf es ls q .array)
 
--- Two parts that a covering write made equal: state and array right after that sample, and all answers (demand 3).
+-- Two parts that a covering write made equal: right after that sample, at the end, and in all answers (demand 3).
 pub record Covered (k : ℕ) (es ls : List ℕ) (p q : Part) : Type 0 where
   pub parts : runOf (take (suc k) es) (take (suc k) ls) p ≡ runOf (take (suc k) es) (take (suc k) ls) q
   pub after : runOf es ls p ≡ runOf es ls q

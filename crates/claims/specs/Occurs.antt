@@ -7,10 +7,11 @@ use mathlib.Core.List.{List, [], _∷_, _++_}
 use mathlib.Core.Path.{_≡_}
 use lib.ListN.{length, take, set, replicate}
 use Rattle.part.specs.Numbers.{x4323, smallSize, writeTime}
+use Rattle.refusals.specs.Refusals.{accepted, judgedOf}
 use Rattle.twin.specs.Run.{Part, partStep, runOf, answersOf}
 use Rattle.twin.specs.Power.{poweredUp}
 use Rattle.claims.specs.Sending.{nothing}
-use Rattle.claims.specs.Differ.{When, never, sample, EqualBut, firstReach, firstDiff, firstCover}
+use Rattle.claims.specs.Differ.{When, never, sample, EqualBut, firstReach, firstDiff, firstCover, elsewhere, sentAfter, coversNone}
 use Rattle.claims.specs.Traffic.{Capture, joined, after, wait, awake, written, ordered, readAt}
 use Rattle.claims.specs.Bent.{Step, diffUnder, holdsFor, lowestFirst, readsAnew, keepsWithheld}
 
@@ -58,7 +59,7 @@ unsetWrite = joined (awake ++ writeAndRead)
 abbrev pub setWrite : Capture
 setWrite = joined (awake ++ ordered 0x02 ++ writeAndRead)
 
--- So many samples into the read, its byte has been fetched and its second bit is out.
+-- So many samples into that capture the byte has been fetched and its second bit is out.
 abbrev pub partWay : ℕ
 partWay = 121
 
@@ -67,20 +68,37 @@ abbrev pub midway : Part → Part
 midway p =
     record { state = runOf (take partWay (readIt .times)) (take partWay (readIt .levels)) left .state; array = p .array }
 
+-- Another address is read, then the address is covered, with WEL set (Bytes on the wire, array data, stop, read).
+abbrev pub readThenWrite : Capture
+readThenWrite = joined (awake ++ readAt 0x0346 ++ ordered 0x02 ++ writeAndRead)
+
+-- The first so many samples of a capture.
+abbrev pub cutAt : ℕ → Capture → Capture
+cutAt n c = record { times = take n (c .times); levels = take n (c .levels) }
+
 -- The read cut off after its third bit: the byte of the address is being sent, and only equal bits have been out.
 abbrev pub cutRead : Capture
-cutRead = record { times = take 124 (readIt .times); levels = take 124 (readIt .levels) }
+cutRead = cutAt 124 readIt
 
 -- The byte being sent after a capture, as far as it is not sent yet (State and time, a byte being sent).
-abbrev pub leftToSend : Part → Capture → ℕ
-leftToSend p c = runOf (c .times) (c .levels) p .state .device .talk .out
+abbrev pub stillHeld : Part → Capture → ℕ
+stillHeld p c = runOf (c .times) (c .levels) p .state .device .talk .out
 
 -- Demand 3 of a step, two parts and a capture, as far as it is computed: see holdsFor (demand 3).
 abbrev pub holdsOf : Step → Part → Part → Capture → Bool
 holdsOf step p q c = holdsFor step spot (c .times) (c .levels) p q
 
+-- Nothing fetched from the address is being sent after a capture (demand 3).
+abbrev pub elsewhereAfter : Capture → Bool
+elsewhereAfter c = elsewhere spot (sentAfter (c .times) (c .levels) left nothing)
+
+-- No sample of a capture covers the address (demand 3).
+abbrev pub uncoveredBy : Capture → Bool
+uncoveredBy c = coversNone spot (c .times) (c .levels) left
+
 -- Under the sheet's rules: where a bit is reached and the answers differ, where the address is covered; demand 3 holds.
 pub record Comes (p q : Part) (c : Capture) (reach cover : When) : Type 0 where
+  pub taken : judgedOf (p .state) (c .times) (c .levels) (p .array) (replicate (length (c .levels)) 0) ≡ accepted (length (c .levels))
   pub reached : firstReach spot 0 (c .times) (c .levels) p q nothing nothing ≡ reach
   pub differ : firstDiff 0 (answersOf (c .times) (c .levels) p) (answersOf (c .times) (c .levels) q) ≡ reach
   pub covered : firstCover spot 0 (c .times) (c .levels) p ≡ cover
@@ -103,9 +121,13 @@ pub record Occurs : Type 0 where
   pub unset : Comes left right unsetWrite (sample 241) never
   pub locked : Comes lockedLeft lockedRight setWrite (sample 355) never
   pub before : Comes (midway left) (midway right) (after partWay readIt) never never
+  pub passed : Comes left right readThenWrite never (sample 375)
+  -- what is being sent, and whether a write covers
+  pub from : (elsewhereAfter cutRead ≡ false) × (elsewhereAfter (cutAt 124 readOther) ≡ true)
+  pub covering : (uncoveredBy unsetWrite ≡ true) × (uncoveredBy setWrite ≡ false)
   -- cut off before the unequal bit, the states differ in the byte being sent, and in nothing else by demand 3
   pub cut : Comes left right cutRead never never
-  pub held : (leftToSend left cutRead ≡ 0x30) × (leftToSend right cutRead ≡ 0x70)
+  pub held : (stillHeld left cutRead ≡ 0x30) × (stillHeld right cutRead ≡ 0x70)
   -- under the bent steps, and for each a run on which demand 3 still holds
   pub lowest : Breaks lowestFirst left right readIt (sample 129)
   pub lowest-spares : holdsOf lowestFirst left right setWrite ≡ true

@@ -1,6 +1,7 @@
 -- There is only one possible reply (document 01, Leaving no slack). For each public operation and every input, two
 -- outcomes that both keep what the operation promises are one and the same: in the reply, in the state beside it, and
--- in every lent row, array and buffer. So a promise leaves no freedom in which a wrong twin could hide.
+-- in every lent row, array and buffer. That it is the right one, Demand1 and Demand2 say. The buffer that
+-- the program lends has room for the longest text, by its type.
 use Prim.Native.Nat.{ℕ}
 use mathlib.Core.List.{List}
 use mathlib.Core.Path.{_≡_}

@@ -1,4 +1,6 @@
--- Written and read back: what the claim says of texts and arrays (document 01, Image files; the demand that a written image reads back).
+-- A written image reads back the same: an array that is written and read comes back; a text that is accepted and in the fixed form is what
+-- the writer makes of the array that it gives; and these are all of the writer's texts. It is said of arrays of n 16-byte rows whose longest
+-- text, 44 n + 12, is not so long that 11 refuses it (demand 2; document 01, Image files).
 use Prim.Native.Nat.{ℕ, _+_, _*_, _-_, _/_, _%_, _≤_}
 use mathlib.Core.Bool.{Bool, true, false, not}
 use mathlib.Core.List.{List, [], _∷_}
