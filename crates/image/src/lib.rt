@@ -1,8 +1,8 @@
 // Memory images in Intel's hexadecimal object format. The operations are `read_image` and `write_image`.
-pub mod forms;
-pub mod reading;
-pub mod records;
-pub mod writing;
+mod forms;
+mod reading;
+mod records;
+mod writing;
 
 pub use reading::read_image;
 pub use refusals::Reply;
