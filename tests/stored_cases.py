@@ -142,6 +142,7 @@ def easy_to_get_wrong():
     case("a read past the array's end goes to 0", Capture().woken().read(3, 0xFFE))
     case("0FFFh is array", Capture().woken().unlocked().write(0x0FFF, [0x5A]))
     case("1FFFh is 0FFFh, and locked with it", Capture().woken().unlocked().write(0x1FFF, [0x5A]), stored=0x18)
+    case("1FFFh is 0FFFh, and open with it", Capture().woken().unlocked().write(0x1FFF, [0x5A]), stored=0x19)
     case("a withheld byte is not stored: no WEL", Capture().woken().write(0x080, [0x5A, 0x5B]).read(1, 0x080))
     case("a withheld byte is not stored: locked page, then a read", Capture().woken().unlocked().write(0x000, [0x5A]).read(1, 0x000), stored=0x01)
     case("RESET of an X4325", Capture().sample().wait(200_000).sample(), part=4325)
