@@ -4,13 +4,15 @@ use mathlib.Core.List.{List, [], _∷_}
 use mathlib.Core.Path.{_≡_, refl, ap, _∙_}
 use native.Mathlib.Omega.{arith}
 use lib.ListN.{length, set}
+use borrow.Author.Tests.{eq-eqb, ne-eqb}
 use Rattle.refusals.specs.Refusals.{accepted, meant, powerOf}
 use Rattle.refusals.specs.declared.Reply.{Reply}
 use Rattle.refusals.specs.declared.Reply.the-variants.{Accepted, Refused}
 use Rattle.refusals.proofs.Laws.{is-accepted, is-refused}
 use Rattle.twin.specs.declared.replays.Replayed.{Replayed}
 use Rattle.twin.specs.Promises.{PowersUp, Replays}
-use Rattle.door.specs.Promises.{onceOf, told, Captures}
+use Rattle.image.specs.Promises.{ReadsImage, WritesImage}
+use Rattle.door.specs.Promises.{onceOf, told, Captures, ReplaysOnce, ReadsThrough, WritesThrough}
 
 -- A row of two numbers, both written, has just these.
 pub both-written : (row : List ℕ) (a b : ℕ) → length row ≡ 2 → set (set row 0 a) 1 b ≡ a ∷ b ∷ []
@@ -45,3 +47,39 @@ module _ (part select stored : ℕ) (es ls array row : List ℕ) (u : Replayed) 
       let v = is-accepted (u .reply) (powerOf part select stored) n (up .reply) e in
       let s = up .state in
       record { reply = q .reply ∙ rw (s, v); kept = q .kept ∙ rw (s, v); said = q .said ∙ rw (s, v) }
+
+-- A reply row of another length: nothing is done.
+module _ (numbers : List ℕ) (h : length numbers ≡ 2 → ⊥) where
+  pub replays-none : (part select stored : ℕ) (es ls array row : List ℕ)
+      → ReplaysOnce part select stored es ls array row numbers 0 array row numbers
+  replays-none part select stored es ls array row =
+      let e = ne-eqb (length numbers) 2 h in
+      record { answer = rw e; reply = rw e; kept = rw e; said = rw e }
+
+  pub reads-none : (text array : List ℕ) → ReadsThrough text array numbers 0 array numbers
+  reads-none text array =
+      let e = ne-eqb (length numbers) 2 h in
+      record { answer = rw e; reply = rw e; kept = rw e }
+
+  pub writes-none : (array out : List ℕ) → WritesThrough array out numbers 0 out numbers
+  writes-none array out =
+      let e = ne-eqb (length numbers) 2 h in
+      record { answer = rw e; reply = rw e; said = rw e }
+
+-- A reply row of two numbers: the operation is done, and its reply told.
+module _ (numbers numbers′ : List ℕ) (r : Reply) (h : length numbers ≡ 2) (t : numbers′ ≡ told (meant r)) where
+  pub replays-told : (part select stored : ℕ) (es ls array row array′ row′ : List ℕ) → Captures part select stored es ls array row r array′ row′
+      → ReplaysOnce part select stored es ls array row numbers 1 array′ row′ numbers′
+  replays-told part select stored es ls array row array′ row′ x =
+      let e = eq-eqb (length numbers) 2 h in
+      record { answer = rw e; reply = t ∙ ap told (x .reply) ∙ rw e; kept = x .kept ∙ rw e; said = x .said ∙ rw e }
+
+  pub reads-told : (text array array′ : List ℕ) → ReadsImage text array r array′ → ReadsThrough text array numbers 1 array′ numbers′
+  reads-told text array array′ x =
+      let e = eq-eqb (length numbers) 2 h in
+      record { answer = rw e; reply = t ∙ ap told (x .reply) ∙ rw e; kept = x .kept ∙ rw e }
+
+  pub writes-told : (array out out′ : List ℕ) → WritesImage array out r out′ → WritesThrough array out numbers 1 out′ numbers′
+  writes-told array out out′ x =
+      let e = eq-eqb (length numbers) 2 h in
+      record { answer = rw e; reply = t ∙ ap told (x .reply) ∙ rw e; said = x .said ∙ rw e }

@@ -1,17 +1,12 @@
 -- `door::qillampu_read_image` meets its contract.
-use mathlib.Core.Path.{ap, _∙_}
 use denote.Ref.{now}
-use lib.ListN.{length}
+use Rattle.door.proofs.Laws.{reads-none, reads-told}
 use borrow.Author.Needs.{needs}
-use borrow.Author.Tests.{eq-eqb, ne-eqb}
-use Rattle.door.specs.Promises.{told}
 use Rattle.door.proofs.qillampu_read_image.Statement.{statement}
 use Rattle.door.proofs.qillampu_read_image.Tie as tie
 
 returns : tie.Need-returns
-returns c =
-    let e = ne-eqb (length (now (c .before .before .before .before .args .reply))) 2 (c .if1 .taken) in
-    record { answer = rw e; reply = rw e; kept = rw e }
+returns c = reads-none (now (c .before .before .before .before .args .reply)) (c .if1 .taken) _ _
 
 read-image-requires : tie.Need-read-image-requires
 read-image-requires c κs = search needs
@@ -27,9 +22,9 @@ same-length-2 c = search needs
 
 returns-2 : tie.Need-returns-2
 returns-2 c =
-    let e = eq-eqb (length (now (c .before .before .before .before .before .before .before .before .before .before .before .before .args .reply))) 2 (c .before .before .before .before .before .before .before .before .if1 .left) in
+    let numbers = now (c .before .before .before .before .before .before .before .before .before .before .before .before .args .reply) in
     let done = c .before .before .before .before .before .read-image .ensures in
-    record { answer = rw e; reply = c .before .before .tell .ensures ∙ ap told (done .reply) ∙ rw e; kept = done .kept ∙ rw e }
+    reads-told numbers _ _ (c .before .before .before .before .before .before .before .before .if1 .left) (c .before .before .tell .ensures) _ _ _ done
 
 pub qillampu-read-image-spec : {M : Type 1} → statement M
 qillampu-read-image-spec =

@@ -1,17 +1,12 @@
 -- `door::qillampu_replay` meets its contract.
-use mathlib.Core.Path.{ap, _∙_}
 use denote.Ref.{now}
-use lib.ListN.{length}
+use Rattle.door.proofs.Laws.{replays-none, replays-told}
 use borrow.Author.Needs.{needs}
-use borrow.Author.Tests.{eq-eqb, ne-eqb}
-use Rattle.door.specs.Promises.{told}
 use Rattle.door.proofs.qillampu_replay.Statement.{statement}
 use Rattle.door.proofs.qillampu_replay.Tie as tie
 
 returns : tie.Need-returns
-returns c =
-    let e = ne-eqb (length (now (c .before .before .before .before .before .before .args .reply))) 2 (c .if1 .taken) in
-    record { answer = rw e; reply = rw e; kept = rw e; said = rw e }
+returns c = replays-none (now (c .before .before .before .before .before .before .args .reply)) (c .if1 .taken) _ _ _ _ _ _ _
 
 capture-requires : tie.Need-capture-requires
 capture-requires c κs = search needs
@@ -30,9 +25,9 @@ same-length-3 c = search needs
 
 returns-2 : tie.Need-returns-2
 returns-2 c =
-    let e = eq-eqb (length (now (c .before .before .before .before .before .before .before .before .before .before .before .before .before .before .before .before .before .args .reply))) 2 (c .before .before .before .before .before .before .before .before .before .before .before .if1 .left) in
+    let numbers = now (c .before .before .before .before .before .before .before .before .before .before .before .before .before .before .before .before .before .args .reply) in
     let done = c .before .before .before .before .before .before .before .capture .ensures in
-    record { answer = rw e; reply = c .before .before .tell .ensures ∙ ap told (done .reply) ∙ rw e; kept = done .kept ∙ rw e; said = done .said ∙ rw e }
+    replays-told numbers _ _ (c .before .before .before .before .before .before .before .before .before .before .before .if1 .left) (c .before .before .tell .ensures) _ _ _ _ _ _ _ _ _ done
 
 pub qillampu-replay-spec : {M : Type 1} → statement M
 qillampu-replay-spec =
