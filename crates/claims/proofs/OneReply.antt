@@ -35,6 +35,10 @@ pairs e f = λ i. (e i, f i)
 triples : {A B C : Type 0} {x y : A × B × C} → x .0 ≡ y .0 → x .1 ≡ y .1 → x .2 ≡ y .2 → x ≡ y
 triples e f g = λ i. (e i, f i, g i)
 
+-- Two rows of four that are equal in all of them.
+fours : {A B C D : Type 0} {x y : A × B × C × D} → x .0 ≡ y .0 → x .1 ≡ y .1 → x .2 ≡ y .2 → x .3 ≡ y .3 → x ≡ y
+fours e f g h = λ i. (e i, f i, g i, h i)
+
 -- Two replies that mean the same, with equal states beside them.
 replayed-one : (r q : Replayed) → meant (r .reply) ≡ meant (q .reply) → r .state ≡ q .state → r ≡ q
 replayed-one r q e f = λ i. record { reply = meant-one (r .reply) (q .reply) e i; state = f i }
@@ -50,4 +54,7 @@ one-reply =
       read-image = λ text array r q x y. pairs (meant-one (r .0) (q .0) (cc)) (cc);
       write-image = λ array out r q x y. pairs (meant-one (r .0) (q .0) (cc)) (cc);
       tidy = λ text out r q x y. pairs (cc) (cc);
+      door-replay = λ part select stored es ls array row numbers r q x y. fours (cc) (cc) (cc) (cc);
+      door-read-image = λ text array numbers r q x y. triples (cc) (cc) (cc);
+      door-write-image = λ array out numbers r q x y. triples (cc) (cc) (cc);
     }

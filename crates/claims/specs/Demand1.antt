@@ -1,16 +1,16 @@
 -- Demand 1 (document 01, Refusal numbers, last lines). Whatever goes in: where the table of refusals has a number and a place for it, an
 -- outcome that keeps the operation's promise says these, and nothing has changed: a replay hands back the state given and leaves array and
 -- answer row as they were, a reading leaves the array, a writing the buffer; the program writes one line. A refused power-up hands back the
--- state of part 4323, select 0, stored byte 00h. What is lent for reading only (times, levels, text) no operation can change.
+-- state of part 4323, select 0, stored byte 00h. Through the door the two numbers of the reply row are that number and that place. What is lent for reading only (times, levels, text) no operation can change.
 use Prim.Native.Nat.{ℕ}
-use mathlib.Core.List.{List, _++_}
+use mathlib.Core.List.{List, [], _∷_, _++_}
 use mathlib.Core.Path.{_≡_}
 use lib.ListN.{length, drop}
 use mathlib.Core.Bool.{false}
 use Rattle.part.specs.Kind.{known}
 use Rattle.part.specs.Numbers.{x4323}
 use Rattle.part.specs.declared.state.State.{State}
-use Rattle.refusals.specs.Refusals.{refused, meant, powerOf, judgedOf}
+use Rattle.refusals.specs.Refusals.{accepted, refused, meant, powerOf, judgedOf}
 use Rattle.refusals.specs.declared.Reply.{Reply}
 use Rattle.twin.specs.declared.replays.Replayed.{Replayed}
 use Rattle.twin.specs.declared.power.Size.{Size}
@@ -20,6 +20,7 @@ use Rattle.image.specs.Form.{imageSize}
 use Rattle.image.specs.Reading.{bad, readingOf}
 use Rattle.image.specs.Promises.{imageOf, writeVerdict, ReadsImage, WritesImage}
 use Rattle.tidying.specs.Shown.{refusalLine, shownOf, Starts}
+use Rattle.door.specs.Promises.{ReplaysOnce, ReadsThrough, WritesThrough}
 
 -- What each operation says and leaves where it refuses: k is the paper's number and p its place (Refusal numbers, last lines).
 pub record Demand1 : Type 0 where
@@ -37,6 +38,20 @@ pub record Demand1 : Type 0 where
       → Starts (shownOf text) out r out′ → readingOf imageSize text ≡ bad k p
       → (r ≡ length (refusalLine k p)) × (out′ ≡ refusalLine k p ++ drop r out)
   pub size : (part : ℕ) (r : Size) → SizesPart part r → known part ≡ false → sizeMeant r ≡ refused 1 0
+  pub door-power-up : (part select stored : ℕ) (es ls array row numbers : List ℕ) (r : ℕ) (array′ row′ numbers′ : List ℕ) (k p : ℕ)
+      → ReplaysOnce part select stored es ls array row numbers r array′ row′ numbers′ → length numbers ≡ 2
+      → powerOf part select stored ≡ refused k p
+      → (r ≡ 1) × (numbers′ ≡ k ∷ p ∷ []) × (array′ ≡ array) × (row′ ≡ row)
+  pub door-replay : (part select stored : ℕ) (es ls array row numbers : List ℕ) (r : ℕ) (array′ row′ numbers′ : List ℕ) (n k p : ℕ)
+      → ReplaysOnce part select stored es ls array row numbers r array′ row′ numbers′ → length numbers ≡ 2
+      → powerOf part select stored ≡ accepted n → judgedOf (poweredUp part select stored) es ls array row ≡ refused k p
+      → (r ≡ 1) × (numbers′ ≡ k ∷ p ∷ []) × (array′ ≡ array) × (row′ ≡ row)
+  pub door-read-image : (text array numbers : List ℕ) (r : ℕ) (array′ numbers′ : List ℕ) (k p : ℕ)
+      → ReadsThrough text array numbers r array′ numbers′ → length numbers ≡ 2 → imageOf text array ≡ bad k p
+      → (r ≡ 1) × (numbers′ ≡ k ∷ p ∷ []) × (array′ ≡ array)
+  pub door-write-image : (array out numbers : List ℕ) (r : ℕ) (out′ numbers′ : List ℕ) (k p : ℕ)
+      → WritesThrough array out numbers r out′ numbers′ → length numbers ≡ 2 → writeVerdict array out ≡ refused k p
+      → (r ≡ 1) × (numbers′ ≡ k ∷ p ∷ []) × (out′ ≡ out)
   -- a replay says a refusal only where the table has it
   pub only : (s : State) (es ls array row : List ℕ) (r : Replayed) (array′ row′ : List ℕ) (k p : ℕ)
       → Replays s es ls array row r array′ row′ → meant (r .reply) ≡ refused k p → judgedOf s es ls array row ≡ refused k p

@@ -1,6 +1,6 @@
 -- There is only one possible reply (document 01, Leaving no slack). For each public operation and every input, two
 -- outcomes that both keep what the operation promises are one and the same: in the reply, in the state beside it, and
--- in every lent row, array and buffer. That it is the right one, Demand1 and Demand2 say. The buffer that
+-- in every lent row, array and buffer; through the door in the answer and the reply row too. That it is the right one, Demand1 and Demand2 say. The buffer that
 -- the program lends has room for the longest text, by its type.
 use Prim.Native.Nat.{ℕ}
 use mathlib.Core.List.{List}
@@ -11,6 +11,7 @@ use Rattle.twin.specs.declared.replays.Replayed.{Replayed}
 use Rattle.twin.specs.Promises.{PowersUp, Replays, ReadsRegister, SizesPart}
 use Rattle.image.specs.Promises.{ReadsImage, WritesImage}
 use Rattle.tidying.specs.Shown.{shownOf, Starts}
+use Rattle.door.specs.Promises.{ReplaysOnce, ReadsThrough, WritesThrough}
 
 -- Two outcomes that both keep a promise are one (Leaving no slack, only one possible reply).
 abbrev pub OnlyOne : {A : Type 0} → (A → Type 0) → Type 0
@@ -26,3 +27,9 @@ pub record OneReply : Type 0 where
   pub read-image : (text array : List ℕ) → OnlyOne (λ ((r, array′) : Reply × List ℕ). ReadsImage text array r array′)
   pub write-image : (array out : List ℕ) → OnlyOne (λ ((r, out′) : Reply × List ℕ). WritesImage array out r out′)
   pub tidy : (text out : List ℕ) → OnlyOne (λ ((r, out′) : ℕ × List ℕ). Starts (shownOf text) out r out′)
+  pub door-replay : (part select stored : ℕ) (es ls array row numbers : List ℕ)
+      → OnlyOne (λ ((r, array′, row′, numbers′) : ℕ × List ℕ × List ℕ × List ℕ). ReplaysOnce part select stored es ls array row numbers r array′ row′ numbers′)
+  pub door-read-image : (text array numbers : List ℕ)
+      → OnlyOne (λ ((r, array′, numbers′) : ℕ × List ℕ × List ℕ). ReadsThrough text array numbers r array′ numbers′)
+  pub door-write-image : (array out numbers : List ℕ)
+      → OnlyOne (λ ((r, out′, numbers′) : ℕ × List ℕ × List ℕ). WritesThrough array out numbers r out′ numbers′)
