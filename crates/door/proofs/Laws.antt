@@ -5,7 +5,7 @@ use mathlib.Core.Path.{_≡_, refl, ap, _∙_}
 use native.Mathlib.Omega.{arith}
 use lib.ListN.{length, set}
 use borrow.Author.Tests.{eq-eqb, ne-eqb}
-use Rattle.refusals.specs.Refusals.{accepted, meant, powerOf}
+use Rattle.refusals.specs.Refusals.{meant, powerOf}
 use Rattle.refusals.specs.declared.Reply.{Reply}
 use Rattle.refusals.specs.declared.Reply.the-variants.{Accepted, Refused}
 use Rattle.refusals.proofs.Laws.{is-accepted, is-refused}
