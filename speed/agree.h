@@ -1,0 +1,12 @@
+/* That the proved code and the C give the same reply, answers, array and text. */
+#ifndef AGREE_H
+#define AGREE_H
+
+#include "jobs.h"
+
+/* Each prints what differs, and answers whether nothing does. */
+bool agree_on_job(const struct input *input);
+bool agree_on_refusals(void); /* one or more inputs for each refusal that the door can give */
+bool agree_on_random(void);   /* rough captures, and texts with a few bytes changed */
+
+#endif

@@ -1,0 +1,209 @@
+/* The benchmark's program; `run` calls it.
+ *   bench check              both sides on every job, on refused and on random inputs; status 1 if anything differs
+ *   bench table ROUNDS WAY [COUNTS]   measures and judges; WAY is `time` or `instructions`; status 1 if a bar is missed.
+ *                            COUNTS: a file of lines `JOB PROVED C`, instructions of the job counted from outside
+ *   bench counter            status 0 if the kernel lets this program count its instructions itself
+ *   bench once SIDE JOB      the job once by `proved`, `C` or `none`, for counting from outside: less the run of `none`
+ *   bench jobs | bench input JOB      the names; a job's first text or array on standard output */
+#include "agree.h"
+#include "measure.h"
+
+#include <stdio.h>
+#include <stdlib.h>
+#include <string.h>
+
+enum { MOST_C_INSTRUCTIONS = 95 };
+
+struct row {
+    size_t units;
+    struct cost time[SIDES];
+    double instructions[SIDES]; /* a unit; 0: could not be had */
+};
+
+static struct input input;
+static struct result result;
+static struct row rows[JOBS];
+
+static int check(void)
+{
+    bool ok = true;
+    for (int i = 0; i < JOBS; i++) {
+        make_input(&input, &jobs[i]);
+        ok &= agree_on_job(&input);
+    }
+    ok &= agree_on_refusals();
+    ok &= agree_on_random();
+    printf(ok ? "equal: replies, answers, arrays and texts of both sides on every input\n" : "FAIL: the two sides differ\n");
+    return !ok;
+}
+
+static int once(const char *side, const struct job *job)
+{
+    int which = SIDES;
+
+    make_input(&input, job);
+    for (int i = 0; i < SIDES; i++)
+        if (strcmp(sides[i].name, side) == 0)
+            which = i;
+    for (size_t call = 0; call < input.calls; call++) {
+        fresh_result(&result, &input);
+        if (which < SIDES)
+            perform(&sides[which], &input, call, &result);
+    }
+    return 0;
+}
+
+static int write_input(const struct job *job)
+{
+    make_input(&input, job);
+    if (job->operation == READ)
+        fwrite(input.text, 1, input.length[0], stdout);
+    else
+        fwrite(input.arrays[0], 1, ARRAY_BYTES, stdout);
+    return 0;
+}
+
+static bool take_counts(const char *path)
+{
+    char name[32];
+    double proved, c;
+    FILE *file = fopen(path, "r");
+
+    if (file == NULL)
+        return false;
+    while (fscanf(file, "%31s %lf %lf", name, &proved, &c) == 3) {
+        const struct job *job = job_named(name);
+        if (job == NULL)
+            continue;
+        struct row *row = &rows[job - jobs];
+        row->instructions[PROVED] = proved / (double)row->units;
+        row->instructions[PLAIN_C] = c / (double)row->units;
+    }
+    fclose(file);
+    return true;
+}
+
+static void measure(unsigned rounds, bool timed, bool counted)
+{
+    for (int i = 0; i < JOBS; i++) {
+        make_input(&input, &jobs[i]);
+        rows[i].units = input.units;
+        if (timed)
+            measure_time(&input, rounds, rows[i].time);
+        for (int s = 0; counted && s < SIDES; s++)
+            rows[i].instructions[s] = count_instructions(&sides[s], &input);
+    }
+}
+
+static double ratio(double proved, double c)
+{
+    return c > 0 ? proved / c : 0;
+}
+
+/* A figure, or `-` where it could not be had. */
+static void figure(double value, int width, int places)
+{
+    if (value > 0)
+        printf(" %*.*f", width, places, value);
+    else
+        printf(" %*s", width, "-");
+}
+
+static double judged_ratio(const struct row *row, bool by_time)
+{
+    return by_time ? ratio(row->time[PROVED].best, row->time[PLAIN_C].best)
+                   : ratio(row->instructions[PROVED], row->instructions[PLAIN_C]);
+}
+
+/* Answers whether the row's bar, if it is judged here, holds. */
+static bool print_row(const struct job *job, bool by_time, bool judged)
+{
+    const struct row *row = &rows[job - jobs];
+    double got = judged_ratio(row, by_time);
+    bool pass = got > 0 && got <= job->bar;
+
+    printf("%-30s%7zu", job->what, row->units);
+    for (int s = 0; s < SIDES; s++) {
+        figure(row->time[s].best, 8, 3);
+        figure(row->time[s].median, 8, 3);
+    }
+    figure(ratio(row->time[PROVED].best, row->time[PLAIN_C].best), 7, 3);
+    for (int s = 0; s < SIDES; s++)
+        figure(row->instructions[s], 8, 2);
+    figure(ratio(row->instructions[PROVED], row->instructions[PLAIN_C]), 7, 3);
+    if (judged)
+        printf("  %.1f %s", job->bar, pass ? "pass" : "FAIL");
+    printf("\n");
+    return pass || !judged;
+}
+
+static void print_head(const char *title)
+{
+    printf("\n%s\n%-30s%7s %17s %17s %7s %17s %7s\n", title, "", "", "proved ns", "C ns", "ns", "instructions", "instr.");
+    printf("%-30s%7s %8s %8s %8s %8s %7s %8s %8s %7s  bar\n", "", "units", "best", "median", "best", "median", "ratio", "proved", "C",
+           "ratio");
+}
+
+static bool print_c_quality(void)
+{
+    double c = rows[job_named("mix") - jobs].instructions[PLAIN_C];
+
+    if (c <= 0) {
+        printf("\nC twin on the mix: - instructions a sample (no way to count them here), at most %d: not judged\n", MOST_C_INSTRUCTIONS);
+        return true;
+    }
+    printf("\nC twin on the mix: %.1f instructions a sample, at most %d: %s\n", c, MOST_C_INSTRUCTIONS,
+           c <= MOST_C_INSTRUCTIONS ? "pass" : "FAIL");
+    return c <= MOST_C_INSTRUCTIONS;
+}
+
+static int table(unsigned rounds, bool by_time, const char *counts)
+{
+    static const char *growth[] = {"mix-4k", "mix-16k", "mix", "read-1k", "read-4k", "read-16k", "read-64k"};
+    bool ok = true;
+
+    measure(rounds, by_time, counts == NULL && can_count());
+    if (counts != NULL && !take_counts(counts)) {
+        fprintf(stderr, "bench: cannot read %s\n", counts);
+        return 2;
+    }
+    print_head("Cost of a sample, of a text byte read, of an array byte written; ratios are proved / C");
+    for (int i = 0; i < JOBS; i++)
+        if (jobs[i].bar > 0)
+            ok &= print_row(&jobs[i], by_time, true);
+    print_head("How cost grows (the same figures by size)");
+    for (unsigned i = 0; i < sizeof growth / sizeof growth[0]; i++)
+        print_row(job_named(growth[i]), by_time, false);
+    ok &= print_c_quality();
+    printf("%s\n", ok ? "every bar holds" : "FAIL: a bar is missed");
+    return !ok;
+}
+
+static int usage(void)
+{
+    fprintf(stderr, "usage: see the head of speed/bench.c\n");
+    return 2;
+}
+
+int main(int argc, char **argv)
+{
+    const char *word = argc > 1 ? argv[1] : "";
+    const struct job *job = argc > 2 ? job_named(argv[argc - 1]) : NULL;
+
+    if (strcmp(word, "check") == 0)
+        return check();
+    if (strcmp(word, "counter") == 0)
+        return !can_count();
+    if (strcmp(word, "jobs") == 0) {
+        for (int i = 0; i < JOBS; i++)
+            printf("%s\n", jobs[i].name);
+        return 0;
+    }
+    if (strcmp(word, "once") == 0 && argc == 4 && job != NULL)
+        return once(argv[2], job);
+    if (strcmp(word, "input") == 0 && job != NULL)
+        return write_input(job);
+    if (strcmp(word, "table") == 0 && (argc == 4 || argc == 5) && atoi(argv[2]) > 0)
+        return table((unsigned)atoi(argv[2]), strcmp(argv[3], "time") == 0, argc == 5 ? argv[4] : NULL);
+    return usage();
+}

@@ -1,0 +1,18 @@
+/* The captures that replay is timed on. */
+#ifndef CAPTURES_H
+#define CAPTURES_H
+
+#include "master.h"
+
+/* Each fills the master's whole room, from power-up on. Where the watchdog is to run is the stored control byte's choice. */
+void capture_mix(struct master *m);    /* page writes, polling, random and sequential reads, register writes and reads */
+void capture_reads(struct master *m);  /* long sequential reads */
+void capture_pages(struct master *m);  /* whole pages, each followed by polling through its write time */
+void capture_idle(struct master *m);   /* both lines high */
+void capture_reset(struct master *m);  /* the mix with VCC low throughout */
+void capture_edges(struct master *m);  /* a start or a stop at every sample */
+
+/* For comparison only: traffic, mostly to this select, with wrong turns, VCC drops, WP, long waits and noise. */
+void capture_rough(struct master *m, uint8_t select);
+
+#endif

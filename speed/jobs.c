@@ -1,0 +1,103 @@
+#include "jobs.h"
+
+#include "image.h"
+#include "texts.h"
+#include "twin.h"
+
+#include <qillampu.h>
+#include <string.h>
+
+const struct side sides[SIDES] = {
+    {"proved", qillampu_replay, qillampu_read_image, qillampu_write_image},
+    {"C", ctwin_replay, cimage_read, cimage_write},
+};
+
+/* 60h stores WD 11, watchdog off; 00h its longest time. */
+const struct job jobs[JOBS] = {
+    {"mix", "mix", REPLAY, 65536, 1.0, 0x60, capture_mix, 0},
+    {"watchdog", "mix, watchdog on", REPLAY, 65536, 1.0, 0x00, capture_mix, 0},
+    {"reads", "sequential reads", REPLAY, 65536, 1.0, 0x60, capture_reads, 0},
+    {"pages", "page writes", REPLAY, 65536, 1.0, 0x60, capture_pages, 0},
+    {"idle", "idle bus", REPLAY, 65536, 1.0, 0x60, capture_idle, 0},
+    {"reset", "reset throughout", REPLAY, 65536, 1.5, 0x60, capture_reset, 0},
+    {"edges", "start or stop at every sample", REPLAY, 65536, 1.5, 0x60, capture_edges, 0},
+    {"read-1k", "read 1 KB, 16 a record", READ, 1024, 1.0, 0, NULL, 16},
+    {"read-4k", "read 4 KB, 16 a record", READ, 4096, 1.0, 0, NULL, 16},
+    {"read-full", "read 11 KB, 16 a record", READ, OUT_BYTES, 1.0, 0, NULL, 16},
+    {"read-16k", "read 16 KB, 6 a record", READ, 16384, 1.0, 0, NULL, 6},
+    {"read-64k", "read 64 KB, 1 a record", READ, 65536, 1.0, 0, NULL, 1},
+    {"write-full", "write a full array", WRITE, ARRAY_BYTES, 1.0, 0, NULL, 1},
+    {"write-sparse", "write one row in eight", WRITE, ARRAY_BYTES, 1.0, 0, NULL, 8},
+    {"write-blank", "write all FFh", WRITE, ARRAY_BYTES, 1.0, 0, NULL, 0},
+    {"mix-4k", "mix, 4,096 samples", REPLAY, 4096, 0, 0x60, capture_mix, 0},
+    {"mix-16k", "mix, 16,384 samples", REPLAY, 16384, 0, 0x60, capture_mix, 0},
+};
+
+const struct job *job_named(const char *name)
+{
+    for (int i = 0; i < JOBS; i++)
+        if (strcmp(jobs[i].name, name) == 0)
+            return &jobs[i];
+    return NULL;
+}
+
+static void make_call(struct input *input, size_t call)
+{
+    const struct job *job = input->job;
+    uint32_t seed = (uint32_t)call + 1;
+    size_t at = call * job->size;
+    struct master master;
+
+    switch (job->operation) {
+    case REPLAY:
+        master_begin(&master, input->elapsed + at, input->levels + at, job->size, seed);
+        job->capture(&master);
+        input->length[call] = master.length;
+        break;
+    case READ:
+        fill_array(input->arrays[0], 1, seed);
+        input->length[call] = make_text(input->text + at, job->size, input->arrays[0], job->shape);
+        break;
+    case WRITE:
+        fill_array(input->arrays[call], job->shape, seed);
+        input->length[call] = job->size;
+        break;
+    }
+    input->units += input->length[call];
+}
+
+void make_input(struct input *input, const struct job *job)
+{
+    input->job = job;
+    input->calls = MOST_SAMPLES / job->size;
+    input->units = 0;
+    fill_array(input->arrays[0], 1, 1);
+    for (size_t call = 0; call < input->calls; call++)
+        make_call(input, call);
+}
+
+void fresh_result(struct result *result, const struct input *input)
+{
+    if (input->job->operation == REPLAY)
+        memcpy(result->array, input->arrays[0], ARRAY_BYTES);
+    else
+        memset(result->array, 0xA5, ARRAY_BYTES);
+}
+
+void perform(const struct side *side, const struct input *input, size_t call, struct result *result)
+{
+    size_t at = call * input->job->size, n = input->length[call];
+
+    switch (input->job->operation) {
+    case REPLAY:
+        side->replay(4323, 0, input->job->stored, input->elapsed + at, n, input->levels + at, n, result->array, ARRAY_BYTES,
+                     result->answers, n, result->reply, 2);
+        break;
+    case READ:
+        side->read(input->text + at, n, result->array, ARRAY_BYTES, result->reply, 2);
+        break;
+    case WRITE:
+        side->write(input->arrays[call], ARRAY_BYTES, result->out, OUT_BYTES, result->reply, 2);
+        break;
+    }
+}

@@ -1,0 +1,56 @@
+#include "texts.h"
+
+#include <string.h>
+
+enum { ARRAY_BYTES = 4096, ROW_BYTES = 16, EMPTY_LINE = 12 };
+
+void fill_array(uint8_t *array, unsigned every, uint32_t seed)
+{
+    uint32_t random = seed * 2654435761u;
+
+    memset(array, 0xFF, ARRAY_BYTES);
+    for (unsigned i = 0; i < ARRAY_BYTES; i++) {
+        random = random * 1664525 + 1013904223;
+        if (every != 0 && i / ROW_BYTES % every == 0)
+            array[i] = (uint8_t)(random >> 24);
+    }
+}
+
+static void put_hex(uint8_t **at, unsigned byte)
+{
+    for (int shift = 4; shift >= 0; shift -= 4) {
+        unsigned nibble = byte >> shift & 15;
+        *(*at)++ = (uint8_t)(nibble < 10 ? '0' + nibble : 'A' + nibble - 10);
+    }
+}
+
+static uint8_t *put_line(uint8_t *at, unsigned address, unsigned type, const uint8_t *data, unsigned count)
+{
+    unsigned sum = count + (address >> 8) + address + type;
+
+    *at++ = ':';
+    put_hex(&at, count);
+    put_hex(&at, address >> 8);
+    put_hex(&at, address & 255);
+    put_hex(&at, type);
+    for (unsigned i = 0; i < count; i++) {
+        put_hex(&at, data[i]);
+        sum += data[i];
+    }
+    put_hex(&at, -sum & 255);
+    *at++ = '\n';
+    return at;
+}
+
+size_t make_text(uint8_t *text, size_t room, const uint8_t *array, unsigned per_record)
+{
+    const size_t line = EMPTY_LINE + 2 * per_record;
+    uint8_t *at = text, *end = text + room - EMPTY_LINE;
+    unsigned address = 0;
+
+    for (; address + per_record <= ARRAY_BYTES && (size_t)(end - at) >= line; address += per_record)
+        at = put_line(at, address, 0, array + address, per_record);
+    while ((size_t)(end - at) >= EMPTY_LINE)
+        at = put_line(at, address, 0, NULL, 0);
+    return (size_t)(put_line(at, 0, 1, NULL, 0) - text);
+}

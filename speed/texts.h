@@ -1,0 +1,15 @@
+/* The arrays and image texts that the image code is timed on. */
+#ifndef TEXTS_H
+#define TEXTS_H
+
+#include <stddef.h>
+#include <stdint.h>
+
+/* Every `every`-th 16-byte row holds bytes of the seed's, the others FFh; 0: no row does. */
+void fill_array(uint8_t *array, unsigned every, uint32_t seed);
+
+/* A sound text of at most `room` bytes and at least room - 11: records of `per_record` bytes, ascending, as long as array and
+ * room allow, then records of count 0, then the end record. Answers its length. */
+size_t make_text(uint8_t *text, size_t room, const uint8_t *array, unsigned per_record);
+
+#endif
