@@ -1,4 +1,4 @@
-#define _GNU_SOURCE /* syscall */
+#define _DEFAULT_SOURCE /* syscall */
 #include "measure.h"
 
 #include <linux/perf_event.h>
