@@ -15,7 +15,7 @@
 enum { MOST_C_INSTRUCTIONS = 95 };
 
 struct row {
-    size_t units;
+    size_t calls, units;
     struct cost time[SIDES];
     double instructions[SIDES]; /* a unit; 0: could not be had */
 };
@@ -87,6 +87,7 @@ static void measure(unsigned rounds, bool timed, bool counted)
 {
     for (int i = 0; i < JOBS; i++) {
         make_input(&input, &jobs[i]);
+        rows[i].calls = input.calls;
         rows[i].units = input.units;
         if (timed)
             measure_time(&input, rounds, rows[i].time);
@@ -122,7 +123,7 @@ static bool print_row(const struct job *job, bool by_time, bool judged)
     double got = judged_ratio(row, by_time);
     bool pass = got > 0 && got <= job->bar;
 
-    printf("%-30s%7zu", job->what, row->units);
+    printf("%-30s%3zu x %5zu", job->what, row->calls, row->units / row->calls);
     for (int s = 0; s < SIDES; s++) {
         figure(row->time[s].best, 8, 3);
         figure(row->time[s].median, 8, 3);
@@ -139,9 +140,9 @@ static bool print_row(const struct job *job, bool by_time, bool judged)
 
 static void print_head(const char *title)
 {
-    printf("\n%s\n%-30s%7s %17s %17s %7s %17s %7s\n", title, "", "", "proved ns", "C ns", "ns", "instructions", "instr.");
-    printf("%-30s%7s %8s %8s %8s %8s %7s %8s %8s %7s  bar\n", "", "units", "best", "median", "best", "median", "ratio", "proved", "C",
-           "ratio");
+    printf("\n%s\n%-30s%11s %17s %17s %7s %17s %7s\n", title, "", "calls", "proved ns", "C ns", "ns", "instructions", "instr.");
+    printf("%-30s%11s %8s %8s %8s %8s %7s %8s %8s %7s  bar\n", "", "x units", "best", "median", "best", "median", "ratio", "proved",
+           "C", "ratio");
 }
 
 static bool print_c_quality(void)

@@ -1,4 +1,4 @@
-/* The bench cases P1 to P9 on the C twin, each worked out by hand from the rules: a twin that is wrong measures nothing.
+/* The bench cases P1 to P9 and a few more on the C twin, each worked out by hand from the rules: a twin that is wrong measures nothing.
  * What the state holds is seen from outside, by the answers and by reading back. */
 #include "master.h"
 #include "twin.h"
@@ -170,6 +170,47 @@ static void p9(void)
     expect(!(answers[m.length - 1] & WRITING), "P9 5,000");
 }
 
+/* A byte at address 0 with no register write before it. */
+static void wel_low(void)
+{
+    struct master m;
+    begin(&m);
+    master_end_reset(&m);
+    master_address(&m, 0, 0);
+    master_send(&m, 0x5A);
+    size_t sent = m.length;
+    master_stop(&m);
+    replay(&m, 4323, 0x60);
+    expect(!acknowledged(sent) && array[0] == 0xFF, "WEL low: a byte is withheld and not kept");
+}
+
+/* 06h alone, then the register. */
+static void rwel_needs_wel(void)
+{
+    struct master m;
+    begin(&m);
+    master_end_reset(&m);
+    master_register(&m, 0, 0x06);
+    master_address(&m, 0, 0xFFFF);
+    master_read(&m, 0, 1);
+    replay(&m, 4323, 0x60);
+    expect(byte_read(m.length) == 0x60, "06h with WEL low sets nothing");
+}
+
+/* Two bytes from the last place of a page, and from the last of the array; the second one is read back on its own. */
+static void reads_go_on(uint16_t from, uint16_t next)
+{
+    struct master m;
+    begin(&m);
+    array[next] = 0x3C;
+    master_end_reset(&m);
+    master_address(&m, 0, from);
+    master_read(&m, 0, 1);
+    master_read(&m, 0, 1);
+    replay(&m, 4323, 0x60);
+    expect(byte_read(m.length) == 0x3C, "a read goes on past its page");
+}
+
 int main(void)
 {
     p1();
@@ -178,6 +219,11 @@ int main(void)
     p6();
     p7_p8();
     p9();
+    expect(register_after(0x9A) == 0x9A, "WPEN, WD and BP are taken from the third byte");
+    wel_low();
+    rwel_needs_wel();
+    reads_go_on(0x03F, 0x040);
+    reads_go_on(0xFFF, 0x000);
     printf(failures ? "the C twin fails its own cases\n" : "the C twin keeps P1 to P9\n");
     return failures != 0;
 }
