@@ -44,13 +44,6 @@ static void run(const struct side *side, enum operation operation, const struct 
     }
 }
 
-/* The rules give an accepted text no count, so there only the acceptance is compared. */
-static bool same_reply(enum operation operation, const struct outcome *a, const struct outcome *b)
-{
-    bool counted = operation != READ || a->reply[0] != 0;
-    return a->answer == b->answer && a->reply[0] == b->reply[0] && (!counted || a->reply[1] == b->reply[1]);
-}
-
 /* Runs both sides; `number` is the refusal that both must give, or negative where only their agreement is asked. */
 static bool agree(const char *what, enum operation operation, const struct call *c, int number)
 {
@@ -59,7 +52,7 @@ static bool agree(const char *what, enum operation operation, const struct call 
 
     for (int i = 0; i < SIDES; i++)
         run(&sides[i], operation, c, &outcomes[i]);
-    if (!same_reply(operation, p, q))
+    if (p->answer != q->answer || memcmp(p->reply, q->reply, sizeof p->reply) != 0)
         differs = "reply";
     else if (memcmp(p->array, q->array, sizeof p->array) != 0)
         differs = "array";

@@ -12,7 +12,6 @@ enum { DATA = 0, END = 1 };
 struct image {
     uint8_t cells[ARRAY_BYTES];
     bool given[ARRAY_BYTES];
-    uint64_t count;
 };
 
 static int digit(uint8_t c)
@@ -79,7 +78,6 @@ static unsigned take_record(struct image *image, const uint8_t *record)
         image->given[address + i] = true;
         image->cells[address + i] = record[HEAD_BYTES + i];
     }
-    image->count += count;
     return 0;
 }
 
@@ -120,11 +118,10 @@ uint8_t cimage_read(const uint8_t *text, size_t text_len, uint8_t *array, size_t
         return 1;
     memset(image.cells, 0xFF, sizeof image.cells);
     memset(image.given, 0, sizeof image.given);
-    image.count = 0;
     reply[0] = read_text(text, text_len, &image, &reply[1]);
     if (reply[0] == 0) {
         memcpy(array, image.cells, ARRAY_BYTES);
-        reply[1] = image.count;
+        reply[1] = text_len;
     }
     return 1;
 }

@@ -6,7 +6,7 @@
 #include <stddef.h>
 #include <stdint.h>
 
-/* An accepted text's count is the number of array bytes that it gives. */
+/* An accepted text's count is its length: the rules give it none, and that is what the door answers. */
 uint8_t cimage_read(const uint8_t *text, size_t text_len, uint8_t *array, size_t array_len, uint64_t *reply, size_t reply_len);
 
 /* The count is the length written. */
