@@ -19,7 +19,7 @@ static uint16_t some_address(struct master *m)
     return (uint16_t)master_random(m, 4096);
 }
 
-/* One transaction of the mix. Writes are one in four: with the polling they call for they are still over half of the samples. */
+/* One transaction of the mix. Writes are one in four, since each brings its polling with it. */
 static void mixed(struct master *m)
 {
     switch (master_random(m, 8)) {
