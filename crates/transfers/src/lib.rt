@@ -1,0 +1,246 @@
+// A capture as a list of what went over the bus: starts, stops, bytes, ninth bits, write cycles and
+// resets, each a number with the place of its sample.
+use part::cases;
+use part::state::Phase;
+use part::state::State;
+use sample::answers;
+use sample::steps;
+use wire::Sign;
+ghost use mathlib.Core.Path.{_≡_};
+ghost use mathlib.Core.List.{List, [], _∷_};
+ghost use Prim.Native.Nat.{_+_, _<_, _≤_, min};
+ghost use lib.ListN.{length};
+ghost use Rattle.transfers.specs.Transfers.{roleOf, packedOf, numberOf, saidBy, heardIn, edgeBy, sampleSays};
+ghost use Rattle.transfers.specs.Promises.{Lists, Says};
+
+// What a sample can say: a start or a stop with the bits of a byte that it cuts off, a byte at its
+// eighth fall with the phase that it met, the ninth bit as it stood on the line, and where a write
+// cycle or reset begins or ends.
+pub enum Entry {
+    Start(u8),
+    Stop(u8),
+    Byte(Phase, u8),
+    Ninth(bool),
+    CycleBegins,
+    CycleEnds,
+    ResetBegins,
+    ResetEnds,
+}
+
+// How many entries a list has, and the state after its samples.
+pub struct Listed {
+    pub count: usize,
+    pub state: State,
+}
+
+// The role of a byte by the phase that it met.
+fn role(phase: Phase) -> u8
+    ensures { λ r. ⌜ r ≡ roleOf phase ⌝ }
+    ensures { λ r. ⌜ r < 16 ⌝ }
+{
+    match phase {
+        Phase::Slave => 2,
+        Phase::High => 3,
+        Phase::Low => 4,
+        Phase::Data => 5,
+        Phase::Register => 6,
+        Phase::Send => 7,
+        Phase::SendRegister => 8,
+        Phase::Idle => 9,
+        Phase::Silent => 9,
+    }
+}
+
+// Place, tag and value as one number.
+fn packed(place: usize, tag: u8, value: u8) -> u32
+    requires { ⌜ tag < 16 ⌝ }
+    ensures { λ r. ⌜ r ≡ packedOf place tag value ⌝ }
+{
+    let at = (place % 1_048_576) as u32;
+    at * 4096 + (tag as u32) * 256 + (value as u32)
+}
+
+// An entry and its place as one number.
+fn number(place: usize, entry: Entry) -> u32
+    ensures { λ r. ⌜ r ≡ numberOf (record { place = place; entry = entry }) ⌝ }
+{
+    match entry {
+        Entry::Start(bits) => packed(place, 0, bits),
+        Entry::Stop(bits) => packed(place, 1, bits),
+        Entry::Byte(phase, value) => packed(place, role(phase), value),
+        Entry::Ninth(level) => packed(place, 10, cases::worth(level, 1)),
+        Entry::CycleBegins => packed(place, 11, 0),
+        Entry::CycleEnds => packed(place, 12, 0),
+        Entry::ResetBegins => packed(place, 13, 0),
+        Entry::ResetEnds => packed(place, 14, 0),
+    }
+}
+
+// Lays an entry over the row at a place, if there is room, and answers the place after it.
+fn put(entry: Entry, place: usize, entries: &mut [u32], at: usize) -> usize
+    requires { ⌜ at < 18446744073709551615 ⌝ }
+    ensures { λ r. ⌜ Says 1 place (entry ∷ []) at (now (entries .entry)) r (now (entries .exit)) ⌝ }
+{
+    let told = number(place, entry);
+    if at < entries.len() {
+        entries[at] = told;
+        return at + 1;
+    }
+    at + 1
+}
+
+// What is said where something began or ended, by whether it was and is.
+fn put_edge(
+    was: bool,
+    is: bool,
+    begins: Entry,
+    ends: Entry,
+    place: usize,
+    entries: &mut [u32],
+    at: usize,
+) -> usize
+    requires { ⌜ at < 18446744073709551615 ⌝ }
+    ensures { λ r. ⌜ Says 1 place (edgeBy was is begins ends) at (now (entries .entry)) r (now (entries .exit)) ⌝ }
+{
+    if was {
+        if is {
+            return at;
+        }
+        return put(ends, place, entries, at);
+    }
+    if is {
+        return put(begins, place, entries, at);
+    }
+    at
+}
+
+// What a sign says, with the phase that it met and the bits committed before it.
+fn put_sign(
+    sign: Sign,
+    phase: Phase,
+    bits: u8,
+    place: usize,
+    entries: &mut [u32],
+    at: usize,
+) -> usize
+    requires { ⌜ at < 18446744073709551615 ⌝ }
+    ensures { λ r. ⌜ Says 1 place (saidBy sign phase bits) at (now (entries .entry)) r (now (entries .exit)) ⌝ }
+{
+    match sign {
+        Sign::Quiet => at,
+        Sign::Start => put(Entry::Start(bits), place, entries, at),
+        Sign::Stop(n) => put(Entry::Stop(n), place, entries, at),
+        Sign::Bit => at,
+        Sign::Byte(v) => put(Entry::Byte(phase, v), place, entries, at),
+        Sign::Ninth(b) => put(Entry::Ninth(b), place, entries, at),
+    }
+}
+
+// The sign of a sample as the state before it met it; none while reset is active.
+fn put_heard(
+    reset: bool,
+    level: u8,
+    before: State,
+    place: usize,
+    entries: &mut [u32],
+    at: usize,
+) -> usize
+    requires { ⌜ at < 18446744073709551615 ⌝ }
+    ensures { λ r. ⌜ Says 1 place (heardIn reset level before) at (now (entries .entry)) r (now (entries .exit)) ⌝ }
+{
+    if reset {
+        return at;
+    }
+    let device = before.device;
+    let talk = device.talk;
+    let bus = before.wire;
+    let frame = bus.frame;
+    let sda = answers::line(level, talk.own);
+    let seen = wire::see(bus, answers::scl(level), sda);
+    let sign = seen.sign;
+    let phase = talk.phase;
+    put_sign(sign, phase, frame.bits, place, entries, at)
+}
+
+// All that one sample says, from the states before and after it.
+fn put_sample(
+    before: State,
+    after: State,
+    elapsed: u32,
+    level: u8,
+    place: usize,
+    entries: &mut [u32],
+    at: usize,
+) -> usize
+    requires { ⌜ at + 4 ≤ 18446744073709551615 ⌝ }
+    ensures { λ r. ⌜ Says 4 place (sampleSays elapsed level before after) at (now (entries .entry)) r (now (entries .exit)) ⌝ }
+{
+    let was = before.timers;
+    let is = after.timers;
+    let wrote = 0 < was.write;
+    let goes_on = elapsed < was.write;
+    let writes = 0 < is.write;
+    let first = put_edge(
+        was.reset,
+        is.reset,
+        Entry::ResetBegins,
+        Entry::ResetEnds,
+        place,
+        entries,
+        at,
+    );
+    let second = put_edge(
+        wrote,
+        goes_on,
+        Entry::CycleBegins,
+        Entry::CycleEnds,
+        place,
+        entries,
+        first,
+    );
+    let third = put_heard(is.reset, level, before, place, entries, second);
+    put_edge(
+        goes_on,
+        writes,
+        Entry::CycleBegins,
+        Entry::CycleEnds,
+        place,
+        entries,
+        third,
+    )
+}
+
+fn shorter(a: usize, b: usize) -> usize
+    ensures { λ r. ⌜ r ≡ min a b ⌝ }
+{
+    if a < b {
+        return a;
+    }
+    b
+}
+
+// Steps through a capture, as far as both of its rows go, and lays what it says over `entries`, as
+// far as there is room. Whether a replay would refuse the capture is not asked.
+pub fn list(
+    state: State,
+    elapsed: &[u32],
+    levels: &[u8],
+    array: &mut [u8],
+    entries: &mut [u32],
+) -> Listed
+    ensures { λ r. ⌜ Lists state (now (elapsed .entry)) (now (levels .entry)) (now (array .entry)) (now (entries .entry)) r (now (array .exit)) (now (entries .exit)) ⌝ }
+{
+    let samples = shorter(elapsed.len(), levels.len());
+    let mut now = state;
+    let mut count = 0;
+    let mut i = 0;
+    while i < samples {
+        let e = elapsed[i];
+        let level = levels[i];
+        let next = steps::step(now, e, level, array);
+        count = put_sample(now, next, e, level, i, entries, count);
+        now = next;
+        i += 1;
+    }
+    Listed { count, state: now }
+}
