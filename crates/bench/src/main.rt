@@ -1,5 +1,4 @@
 // Replays the cases on standard input and writes a reply for each to standard output.
-mod buffers;
 mod cases;
 mod replies;
 mod rounds;
@@ -9,25 +8,8 @@ use cases::Said;
 use form::headers;
 use form::headers::Header;
 use form::words;
-use libc::STDIN_FILENO;
 use libc::STDOUT_FILENO;
-
-// Fills a row from the input, and answers whether there was enough of it.
-fn fill(row: &mut [u8]) -> bool {
-    let got = io::read_full(STDIN_FILENO, row);
-    got == row.len()
-}
-
-// Reads the array, the elapsed words and the levels, in the order in which a case holds them.
-fn read_rows(array: &mut [u8], raw: &mut [u8], elapsed: &mut [u32], levels: &mut [u8]) -> bool {
-    if fill(array) {
-        if fill(raw) {
-            words::decode(raw, elapsed);
-            return fill(levels);
-        }
-    }
-    false
-}
+use reading::rooms;
 
 fn write(row: &[u8]) -> bool {
     io::write_all(STDOUT_FILENO, row)
@@ -55,7 +37,7 @@ fn reply(
     levels: &mut [u8],
     answers: &mut [u8],
 ) -> bool {
-    if read_rows(array, raw, elapsed, levels) {
+    if reading::read_rows(array, raw, elapsed, levels) {
         let said = cases::answer(header, elapsed, levels, array, answers);
         return write_reply(said, array, answers);
     }
@@ -104,15 +86,15 @@ fn lend(
 // Serves one case; false where the input has no more, or the case is cut off or too long.
 fn serve_one() -> bool {
     let mut header_bytes = [0u8; 64];
-    if fill(&mut header_bytes) {
+    if reading::fill(&mut header_bytes) {
         let mut header_words = [0u32; 16];
         words::decode(&header_bytes, &mut header_words);
         let header = headers::header_of(&header_words);
-        let mut array = buffers::array_room();
-        let mut raw = buffers::raw_room();
-        let mut elapsed = buffers::elapsed_room();
-        let mut levels = buffers::row_room();
-        let mut answers = buffers::row_room();
+        let mut array = rooms::array_room();
+        let mut raw = rooms::raw_room();
+        let mut elapsed = rooms::elapsed_room();
+        let mut levels = rooms::row_room();
+        let mut answers = rooms::row_room();
         return lend(
             header,
             &mut array,

@@ -15,19 +15,20 @@ use Rattle.twin.specs.Run.{Part, partStep}
 use Rattle.transfers.specs.declared.Entry.{Entry}
 use Rattle.transfers.specs.declared.Entry.the-variants.{Start, Stop, Byte, Ninth, CycleBegins, CycleEnds, ResetBegins, ResetEnds}
 
--- What a sign says: the phase is the one that a byte met, the bits are those committed when a start came (State and time, 4).
-abbrev pub saidBy : Sign → Phase → ℕ → List Entry
-saidBy sign.Quiet p bits = []
-saidBy sign.Start p bits = Start bits ∷ []
-saidBy (sign.Stop n) p bits = Stop n ∷ []
-saidBy sign.Bit p bits = []
-saidBy (sign.Byte v) p bits = Byte p v ∷ []
-saidBy (sign.Ninth b) p bits = Ninth b ∷ []
+-- What a sign says, by the phase that a byte met, the part's own SDA level at a ninth bit, and the bits committed before a start
+-- (State and time, 4; Bytes on the wire, acknowledged from the eighth fall to the ninth).
+abbrev pub saidBy : Sign → Phase → Bool → ℕ → List Entry
+saidBy sign.Quiet p own bits = []
+saidBy sign.Start p own bits = Start bits ∷ []
+saidBy (sign.Stop n) p own bits = Stop n ∷ []
+saidBy sign.Bit p own bits = []
+saidBy (sign.Byte v) p own bits = Byte p v ∷ []
+saidBy (sign.Ninth b) p own bits = Ninth b own ∷ []
 
 -- While reset is active no sign is heard, else that of the sample, met by the state before it (State and time, 3 and 4).
 abbrev pub heardIn : Bool → ℕ → State → List Entry
 heardIn true level s = []
-heardIn false level s = saidBy (seenOf level s) (s .device .talk .phase) (s .wire .frame .bits)
+heardIn false level s = saidBy (seenOf level s) (s .device .talk .phase) (s .device .talk .own) (s .wire .frame .bits)
 
 -- What is said where something began or ended, by whether it was and is (State and time, 1 and 2; Bytes on the wire, stop).
 abbrev pub edgeBy : Bool → Bool → Entry → Entry → List Entry
@@ -77,18 +78,18 @@ abbrev pub tagOf : Entry → ℕ
 tagOf (Start n) = 0
 tagOf (Stop n) = 1
 tagOf (Byte p v) = roleOf p
-tagOf (Ninth b) = 10
+tagOf (Ninth b own) = 10
 tagOf CycleBegins = 11
 tagOf CycleEnds = 12
 tagOf ResetBegins = 13
 tagOf ResetEnds = 14
 
--- What an entry holds beside that: the bits cut off, the byte, the level of the ninth bit.
+-- What an entry holds beside that: the bits cut off, the byte, the ninth bit on the line and the part's own level (1 and 2).
 abbrev pub valueOf : Entry → ℕ
 valueOf (Start n) = n
 valueOf (Stop n) = n
 valueOf (Byte p v) = v
-valueOf (Ninth b) = orZero b 1
+valueOf (Ninth b own) = orZero b 1 + orZero own 2
 valueOf CycleBegins = 0
 valueOf CycleEnds = 0
 valueOf ResetBegins = 0

@@ -14,13 +14,14 @@ ghost use Rattle.transfers.specs.Transfers.{roleOf, packedOf, numberOf, 
 ghost use Rattle.transfers.specs.Promises.{Lists, Says};
 
 // What a sample can say: a start or a stop with the bits of a byte that it cuts off, a byte at its
-// eighth fall with the phase that it met, the ninth bit as it stood on the line, and where a write
-// cycle or reset begins or ends.
+// eighth fall with the phase that it met, the ninth bit as it stood on the line with the part's own
+// level there (the part acknowledges where its own is low), and where a write cycle or reset begins
+// or ends.
 pub enum Entry {
     Start(u8),
     Stop(u8),
     Byte(Phase, u8),
-    Ninth(bool),
+    Ninth(bool, bool),
     CycleBegins,
     CycleEnds,
     ResetBegins,
@@ -68,7 +69,7 @@ fn number(place: usize, entry: Entry) -> u32
         Entry::Start(bits) => packed(place, 0, bits),
         Entry::Stop(bits) => packed(place, 1, bits),
         Entry::Byte(phase, value) => packed(place, role(phase), value),
-        Entry::Ninth(level) => packed(place, 10, cases::worth(level, 1)),
+        Entry::Ninth(line, own) => packed(place, 10, cases::worth(line, 1) + cases::worth(own, 2)),
         Entry::CycleBegins => packed(place, 11, 0),
         Entry::CycleEnds => packed(place, 12, 0),
         Entry::ResetBegins => packed(place, 13, 0),
@@ -114,17 +115,18 @@ fn put_edge(
     at
 }
 
-// What a sign says, with the phase that it met and the bits committed before it.
+// What a sign says, with the phase and the own level that it met and the bits committed before it.
 fn put_sign(
     sign: Sign,
     phase: Phase,
+    own: bool,
     bits: u8,
     place: usize,
     entries: &mut [u32],
     at: usize,
 ) -> usize
     requires { ⌜ at < 18446744073709551615 ⌝ }
-    ensures { λ r. ⌜ Says 1 place (saidBy sign phase bits) at (now (entries .entry)) r (now (entries .exit)) ⌝ }
+    ensures { λ r. ⌜ Says 1 place (saidBy sign phase own bits) at (now (entries .entry)) r (now (entries .exit)) ⌝ }
 {
     match sign {
         Sign::Quiet => at,
@@ -132,7 +134,7 @@ fn put_sign(
         Sign::Stop(n) => put(Entry::Stop(n), place, entries, at),
         Sign::Bit => at,
         Sign::Byte(v) => put(Entry::Byte(phase, v), place, entries, at),
-        Sign::Ninth(b) => put(Entry::Ninth(b), place, entries, at),
+        Sign::Ninth(b) => put(Entry::Ninth(b, own), place, entries, at),
     }
 }
 
@@ -159,7 +161,7 @@ fn put_heard(
     let seen = wire::see(bus, answers::scl(level), sda);
     let sign = seen.sign;
     let phase = talk.phase;
-    put_sign(sign, phase, frame.bits, place, entries, at)
+    put_sign(sign, phase, talk.own, frame.bits, place, entries, at)
 }
 
 // All that one sample says, from the states before and after it.

@@ -26,3 +26,10 @@ pub fn raw_room() -> [u8; 262148]
 {
     [0; 262148]
 }
+
+// A sample says at most four things.
+pub fn entry_room() -> [u32; 262148]
+    ensures { λ r. ⌜ 262148 ≡ length r ⌝ }
+{
+    [0; 262148]
+}

@@ -1,0 +1,123 @@
+-- `show::lend` is safe: each part that is lent lies within its buffer.
+use mathlib.Core.Path.{sym}
+use lib.Seq.{length-take-le}
+use borrow.Author.Needs.{needs}
+use Rattle.show.proofs.lend.Statement.{statement}
+use Rattle.show.proofs.lend.Tie as tie
+
+cast-array-length : tie.Need-cast-array-length
+cast-array-length c = search needs
+
+cast-elapsed-length : tie.Need-cast-elapsed-length
+cast-elapsed-length c = search needs
+
+cast-levels-length : tie.Need-cast-levels-length
+cast-levels-length c = search needs
+
+cast-answers-length : tie.Need-cast-answers-length
+cast-answers-length c = search needs
+
+mul-raw-length : tie.Need-mul-raw-length
+mul-raw-length c = search needs
+
+returns : tie.Need-returns
+returns c = search needs
+
+returns-2 : tie.Need-returns-2
+returns-2 c = search needs
+
+returns-3 : tie.Need-returns-3
+returns-3 c = search needs
+
+returns-4 : tie.Need-returns-4
+returns-4 c = search needs
+
+returns-5 : tie.Need-returns-5
+returns-5 c = search needs
+
+returns-6 : tie.Need-returns-6
+returns-6 c = search needs
+
+slice-relend-prefix-show-rows : tie.Need-slice-relend-prefix-show-rows
+slice-relend-prefix-show-rows c = search needs
+
+slice-aggregate-show-rows : tie.Need-slice-aggregate-show-rows
+slice-aggregate-show-rows c = sym (length-take-le _ _ (c .before .before .before .before .before .before .if1 .left))
+
+slice-relend-prefix-show-rows-2 : tie.Need-slice-relend-prefix-show-rows-2
+slice-relend-prefix-show-rows-2 c = search needs
+
+slice-aggregate-show-rows-2 : tie.Need-slice-aggregate-show-rows-2
+slice-aggregate-show-rows-2 c = sym (length-take-le _ _ (c .before .before .before .before .before .before .if3 .left))
+
+slice-relend-prefix-show-rows-3 : tie.Need-slice-relend-prefix-show-rows-3
+slice-relend-prefix-show-rows-3 c = search needs
+
+slice-aggregate-show-rows-3 : tie.Need-slice-aggregate-show-rows-3
+slice-aggregate-show-rows-3 c = sym (length-take-le _ _ (c .before .before .before .before .before .before .if4 .left))
+
+slice-relend-prefix-show-rows-4 : tie.Need-slice-relend-prefix-show-rows-4
+slice-relend-prefix-show-rows-4 c = search needs
+
+slice-aggregate-show-rows-4 : tie.Need-slice-aggregate-show-rows-4
+slice-aggregate-show-rows-4 c = sym (length-take-le _ _ (c .before .before .before .before .before .before .if5 .left))
+
+slice-aggregate-show-rows-5 : tie.Need-slice-aggregate-show-rows-5
+slice-aggregate-show-rows-5 c = sym (length-take-le _ _ (c .before .before .before .before .before .before .if6 .left))
+
+show-rows-requires : tie.Need-show-rows-requires
+show-rows-requires c κs = rw (length-take-le _ _ (c .before .before .before .before .before .before .before .before .before .before .before .before .if1 .left)) (c .before .before .before .before .before .before .before .before .before .before .before .if2 .left)
+
+same-length : tie.Need-same-length
+same-length c = search needs
+
+same-length-2 : tie.Need-same-length-2
+same-length-2 c = search needs
+
+same-length-3 : tie.Need-same-length-3
+same-length-3 c = search needs
+
+same-length-4 : tie.Need-same-length-4
+same-length-4 c = search needs
+
+same-length-5 : tie.Need-same-length-5
+same-length-5 c = search needs
+
+same-length-6 : tie.Need-same-length-6
+same-length-6 c = search needs
+
+returns-7 : tie.Need-returns-7
+returns-7 c = search needs
+
+pub lend-spec : {M : Type 1} → statement M
+lend-spec =
+    tie.close
+    (tie.spec
+    cast-array-length
+    cast-elapsed-length
+    cast-levels-length
+    cast-answers-length
+    mul-raw-length
+    returns
+    returns-2
+    returns-3
+    returns-4
+    returns-5
+    returns-6
+    slice-relend-prefix-show-rows
+    slice-aggregate-show-rows
+    slice-relend-prefix-show-rows-2
+    slice-aggregate-show-rows-2
+    slice-relend-prefix-show-rows-3
+    slice-aggregate-show-rows-3
+    slice-relend-prefix-show-rows-4
+    slice-aggregate-show-rows-4
+    slice-aggregate-show-rows-5
+    show-rows-requires
+    same-length
+    same-length-2
+    same-length-3
+    same-length-4
+    same-length-5
+    same-length-6
+    returns-7)

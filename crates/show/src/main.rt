@@ -1,0 +1,176 @@
+// Reads one case in the form of docs/BENCH.md on standard input and prints it transfer by transfer,
+// with the bytes of the array that changed; or one line with its refusal.
+mod changes;
+mod texts;
+
+use form::fields;
+use form::headers;
+use form::headers::Header;
+use form::words;
+use part::state::State;
+use reading::rooms;
+use refusals::verdicts;
+use twin::Reply;
+ghost use Prim.Native.Nat.{_≤_};
+ghost use lib.ListN.{length};
+
+// One replay: its transfers, then what it changed in the array.
+fn show_once(
+    state: State,
+    elapsed: &[u32],
+    levels: &[u8],
+    array: &mut [u8],
+    before: &mut [u8],
+    entries: &mut [u32],
+) -> State
+    requires { ⌜ length (now array) ≤ length (now before) ⌝ }
+{
+    bytes::copy(array, before);
+    let listed = transfers::list(state, elapsed, levels, array, entries);
+    texts::put_list(entries, listed.count);
+    changes::put_changes(before, array);
+    listed.state
+}
+
+// So many replays, each from the state and array that the one before left; 0 counts as 1.
+fn show_times(
+    times: u32,
+    state: State,
+    elapsed: &[u32],
+    levels: &[u8],
+    array: &mut [u8],
+    before: &mut [u8],
+    entries: &mut [u32],
+)
+    requires { ⌜ length (now array) ≤ length (now before) ⌝ }
+{
+    texts::put_heading(1, times);
+    let mut now = show_once(state, elapsed, levels, array, before, entries);
+    let mut done = 1;
+    while done < times {
+        done += 1;
+        texts::put_heading(done, times);
+        now = show_once(now, elapsed, levels, array, before, entries);
+    }
+}
+
+// Powers a part up as the header says. A replay refuses the rows the first time or never: each
+// leaves every field of the state within its range.
+fn show_case(
+    header: Header,
+    elapsed: &[u32],
+    levels: &[u8],
+    array: &mut [u8],
+    before: &mut [u8],
+    answers: &[u8],
+    entries: &mut [u32],
+)
+    requires { ⌜ length (now array) ≤ length (now before) ⌝ }
+{
+    let part = fields::narrow16(header.part);
+    let select = fields::narrow8(header.select);
+    let stored = fields::narrow8(header.stored);
+    let up = twin::power_up(part, select, stored);
+    let powered = up.reply;
+    let Reply::Accepted(_) = powered else {
+        texts::put_refusal(powered);
+        return;
+    };
+    let state = fields::put_in(header.preset, up.state);
+    let reply = verdicts::judge(state, elapsed, levels, array, answers);
+    let Reply::Accepted(_) = reply else {
+        texts::put_refusal(reply);
+        return;
+    };
+    show_times(header.times, state, elapsed, levels, array, before, entries);
+}
+
+// Reads the rows of the case, each lent at just its length, and shows it.
+fn show_rows(
+    header: Header,
+    array: &mut [u8],
+    before: &mut [u8],
+    raw: &mut [u8],
+    elapsed: &mut [u32],
+    levels: &mut [u8],
+    answers: &[u8],
+    entries: &mut [u32],
+)
+    requires { ⌜ length (now array) ≤ length (now before) ⌝ }
+{
+    if reading::read_rows(array, raw, elapsed, levels) {
+        show_case(header, elapsed, levels, array, before, answers, entries);
+    }
+}
+
+// Lends as much of each buffer as the case asks for; a case that asks for more is not taken.
+fn lend(
+    header: Header,
+    array: &mut [u8],
+    before: &mut [u8],
+    raw: &mut [u8],
+    elapsed: &mut [u32],
+    levels: &mut [u8],
+    answers: &[u8],
+    entries: &mut [u32],
+) {
+    let array_length = header.array as usize;
+    let elapsed_length = header.elapsed as usize;
+    let levels_length = header.levels as usize;
+    let answers_length = header.answers as usize;
+    let raw_length = elapsed_length * words::WORD;
+    if array_length > array.len() {
+        return;
+    }
+    if array_length > before.len() {
+        return;
+    }
+    if raw_length > raw.len() {
+        return;
+    }
+    if elapsed_length > elapsed.len() {
+        return;
+    }
+    if levels_length > levels.len() {
+        return;
+    }
+    if answers_length > answers.len() {
+        return;
+    }
+    show_rows(
+        header,
+        &mut array[..array_length],
+        before,
+        &mut raw[..raw_length],
+        &mut elapsed[..elapsed_length],
+        &mut levels[..levels_length],
+        &answers[..answers_length],
+        entries,
+    )
+}
+
+fn main() {
+    let mut header_bytes = [0u8; 64];
+    if reading::fill(&mut header_bytes) {
+        let mut header_words = [0u32; 16];
+        words::decode(&header_bytes, &mut header_words);
+        let header = headers::header_of(&header_words);
+        let mut array = rooms::array_room();
+        let mut before = rooms::array_room();
+        let mut raw = rooms::raw_room();
+        let mut elapsed = rooms::elapsed_room();
+        let mut levels = rooms::row_room();
+        let answers = rooms::row_room();
+        let mut entries = rooms::entry_room();
+        lend(
+            header,
+            &mut array,
+            &mut before,
+            &mut raw,
+            &mut elapsed,
+            &mut levels,
+            &answers,
+            &mut entries,
+        );
+    }
+}
