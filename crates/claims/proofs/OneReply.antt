@@ -9,6 +9,7 @@ use Rattle.twin.specs.Power.{sizeMeant}
 use Rattle.twin.specs.declared.replays.Replayed.{Replayed}
 use Rattle.twin.specs.declared.power.Size.{Size}
 use Rattle.twin.specs.declared.power.Size.the-variants.{Bytes, Unknown}
+use Rattle.transfers.specs.declared.Listed.{Listed}
 use Rattle.claims.specs.OneReply.{OneReply}
 
 -- Two replies that mean the same are the same.
@@ -43,6 +44,10 @@ fours e f g h = λ i. (e i, f i, g i, h i)
 replayed-one : (r q : Replayed) → meant (r .reply) ≡ meant (q .reply) → r .state ≡ q .state → r ≡ q
 replayed-one r q e f = λ i. record { reply = meant-one (r .reply) (q .reply) e i; state = f i }
 
+-- Two counts that are equal, with equal states beside them.
+listed-one : (r q : Listed) → r .count ≡ q .count → r .state ≡ q .state → r ≡ q
+listed-one r q e f = λ i. record { count = e i; state = f i }
+
 -- The claim: one outcome for each public operation.
 pub one-reply : OneReply
 one-reply =
@@ -57,4 +62,5 @@ one-reply =
       door-replay = λ part select stored es ls array row numbers r q x y. fours (cc) (cc) (cc) (cc);
       door-read-image = λ text array numbers r q x y. triples (cc) (cc) (cc);
       door-write-image = λ array out numbers r q x y. triples (cc) (cc) (cc);
+      list = λ s es ls array row r q x y. triples (listed-one (r .0) (q .0) (cc) (cc)) (cc) (cc);
     }

@@ -12,6 +12,8 @@ use Rattle.twin.specs.Promises.{PowersUp, Replays, ReadsRegister, SizesPart}
 use Rattle.image.specs.Promises.{ReadsImage, WritesImage}
 use Rattle.tidying.specs.Shown.{shownOf, Starts}
 use Rattle.door.specs.Promises.{ReplaysOnce, ReadsThrough, WritesThrough}
+use Rattle.transfers.specs.declared.Listed.{Listed}
+use Rattle.transfers.specs.Promises.{Lists}
 
 -- Two outcomes that both keep a promise are one (Leaving no slack, only one possible reply).
 abbrev pub OnlyOne : {A : Type 0} → (A → Type 0) → Type 0
@@ -33,3 +35,5 @@ pub record OneReply : Type 0 where
       → OnlyOne (λ ((r, array′, numbers′) : ℕ × List ℕ × List ℕ). ReadsThrough text array numbers r array′ numbers′)
   pub door-write-image : (array out numbers : List ℕ)
       → OnlyOne (λ ((r, out′, numbers′) : ℕ × List ℕ × List ℕ). WritesThrough array out numbers r out′ numbers′)
+  pub list : (s : State) (es ls array row : List ℕ)
+      → OnlyOne (λ ((r, array′, row′) : Listed × List ℕ × List ℕ). Lists s es ls array row r array′ row′)

@@ -9,6 +9,7 @@ use native.Mathlib.Numerals.{add-one}
 use lib.ListN.{length, take, drop, set, length-append, length-drop}
 use lib.Seq.{sets, sets-eq, length-take-le, drop-drop}
 use borrow.Author.Tests.{eq-eqb, ne-eqb, le-leb, lt-leb}
+use Rattle.part.proofs.Rows.{sets-append}
 use Rattle.refusals.specs.Refusals.{meant}
 use Rattle.refusals.specs.declared.Reply.the-variants.{Accepted, Refused}
 use Rattle.hexfile.specs.Pairs.{textOf, sumOf, checkOf}
@@ -18,12 +19,6 @@ use Rattle.image.specs.Form.{imageSize}
 use Rattle.image.specs.Writing.{fieldsOf, recordText, rowBy, rowsText, imageText, writtenBy, rowsWritten, lengthOf, mostLength}
 use Rattle.image.specs.Parts.{PutsRow, PutsRows}
 use Rattle.image.specs.Promises.{writeVerdict, WritesImage}
-
--- Two texts laid one after the other are their joining laid at once.
-pub sets-append : (vs ws out : List ℕ) (at next : ℕ) → next ≡ at + length vs
-    → sets (sets out at vs) next ws ≡ sets out at (vs ++ ws)
-sets-append [] ws out at next e = let f : next ≡ at = omega arith in rw f
-sets-append (v ∷ vs) ws out at next e = sets-append vs ws (set out at v) (suc at) next (omega arith)
 
 -- The digits of bytes that follow each other.
 pub text-append : (xs bs : List ℕ) → textOf (xs ++ bs) ≡ textOf xs ++ textOf bs

@@ -2,3 +2,4 @@ pub mod Known
 pub mod Laws
 pub mod Places
 pub mod Store
+pub mod Rows

@@ -15,7 +15,8 @@ use Rattle.image.specs.Form.{imageSize}
 use Rattle.image.specs.Reading.{Reading, taken, bad, readingOf}
 use Rattle.image.specs.Writing.{imageText, lengthOf, mostLength}
 use Rattle.image.specs.Promises.{imageOf, verdictOf, arrayAfter, writeVerdict, ReadsImage, WritesImage}
-use Rattle.image.proofs.Laid.{sets-append, length-image}
+use Rattle.part.proofs.Rows.{sets-append}
+use Rattle.image.proofs.Laid.{length-image}
 use Rattle.tidying.specs.Shown.{decimalOf, refusalLine, shownOf, Starts, Lays}
 
 -- A text laid at the start of a buffer that has room for it.

@@ -9,15 +9,11 @@ use lib.Dec.{ltb}
 use lib.ListN.{length, getD, drop, set, length-append, length-map, length-drop}
 use lib.Seq.{sets, set-out, drop-cons}
 use borrow.Author.Tests.{ltb-true, ltb-false, lt-ltb, le-ltb}
+use Rattle.part.proofs.Rows.{sets-append}
 use Rattle.twin.specs.Run.{Part, partStep, runOf}
 use Rattle.transfers.specs.Transfers.{Placed, placedAt, entriesOf, numberOf, laidFrom, sampleSays}
 use Rattle.transfers.specs.Promises.{Says}
 use Rattle.transfers.specs.declared.Entry.{Entry}
-
--- Two runs of stores, one after the other, are their joining stored at once.
-sets-append : (vs ws row : List ℕ) (at next : ℕ) → next ≡ at + length vs → sets (sets row at vs) next ws ≡ sets row at (vs ++ ws)
-sets-append [] ws row at next e = let f : next ≡ at = omega arith in rw f
-sets-append (v ∷ vs) ws row at next e = sets-append vs ws (set row at v) (suc at) next (omega arith)
 
 -- Lists laid one after the other are their joining laid at once.
 laid-append : (xs ys : List Placed) (row : List ℕ) (at next : ℕ) → next ≡ at + length xs
