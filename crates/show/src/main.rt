@@ -54,8 +54,8 @@ fn show_times(
     }
 }
 
-// Powers a part up as the header says. A replay refuses the rows the first time or never: each
-// leaves every field of the state within its range.
+// Powers a part up as the header says. The rows are refused the first time or never: a run leaves every
+// field of the state within its range (claims/proofs/Kept/InRange, run-fit).
 fn show_case(
     header: Header,
     elapsed: &[u32],
@@ -85,7 +85,8 @@ fn show_case(
     show_times(header.times, state, elapsed, levels, array, before, entries);
 }
 
-// Reads the rows of the case, each lent at just its length, and shows it.
+// Reads the rows of the case, each lent at just its length, and shows it; false where the input ends
+// before they do.
 fn show_rows(
     header: Header,
     array: &mut [u8],
@@ -95,12 +96,14 @@ fn show_rows(
     levels: &mut [u8],
     answers: &[u8],
     entries: &mut [u32],
-)
+) -> bool
     requires { ⌜ length (now array) ≤ length (now before) ⌝ }
 {
     if reading::read_rows(array, raw, elapsed, levels) {
         show_case(header, elapsed, levels, array, before, answers, entries);
+        return true;
     }
+    false
 }
 
 // Lends as much of each buffer as the case asks for; a case that asks for more is not taken.
@@ -113,29 +116,29 @@ fn lend(
     levels: &mut [u8],
     answers: &[u8],
     entries: &mut [u32],
-) {
+) -> bool {
     let array_length = header.array as usize;
     let elapsed_length = header.elapsed as usize;
     let levels_length = header.levels as usize;
     let answers_length = header.answers as usize;
     let raw_length = elapsed_length * words::WORD;
     if array_length > array.len() {
-        return;
+        return false;
     }
     if array_length > before.len() {
-        return;
+        return false;
     }
     if raw_length > raw.len() {
-        return;
+        return false;
     }
     if elapsed_length > elapsed.len() {
-        return;
+        return false;
     }
     if levels_length > levels.len() {
-        return;
+        return false;
     }
     if answers_length > answers.len() {
-        return;
+        return false;
     }
     show_rows(
         header,
@@ -162,7 +165,7 @@ fn main() {
         let mut levels = rooms::row_room();
         let answers = rooms::row_room();
         let mut entries = rooms::entry_room();
-        lend(
+        if lend(
             header,
             &mut array,
             &mut before,
@@ -171,6 +174,9 @@ fn main() {
             &mut levels,
             &answers,
             &mut entries,
-        );
+        ) {
+            return;
+        }
     }
+    texts::put(b"no whole case: it is cut off, or longer than docs/BENCH.md allows\n");
 }

@@ -2,6 +2,7 @@
 // was answered in its ninth clock. A failing write is not told from one that succeeds.
 use hexfile::digits;
 use libc::STDOUT_FILENO;
+use transfers::tags;
 use twin::Reply;
 
 // Where the text stands: at a line's beginning, in the line of a sample, or in that of a byte whose
@@ -103,25 +104,25 @@ fn put_cut(bits: u8) {
 
 fn put_event(tag: u8, value: u8) {
     match tag {
-        0 => {
+        tags::START => {
             put(b"start");
             put_cut(value);
         }
-        1 => {
+        tags::STOP => {
             put(b"stop");
             put_cut(value);
         }
-        11 => put(b"write cycle begins"),
-        12 => put(b"write cycle ends"),
-        13 => put(b"reset begins"),
-        14 => put(b"reset ends"),
+        tags::CYCLE_BEGINS => put(b"write cycle begins"),
+        tags::CYCLE_ENDS => put(b"write cycle ends"),
+        tags::RESET_BEGINS => put(b"reset begins"),
+        tags::RESET_ENDS => put(b"reset ends"),
         _ => put(b"?"),
     }
 }
 
 // What happens at a sample. A write cycle that ends within a byte does not break it off.
 fn event(stands: Stands, place: u32, tag: u8, value: u8) -> Stands {
-    if tag == 12 {
+    if tag == tags::CYCLE_ENDS {
         if let Stands::InByte(_) = stands {
             put(b"(write cycle ends at sample ");
             put_decimal(place as u64);
@@ -136,19 +137,19 @@ fn event(stands: Stands, place: u32, tag: u8, value: u8) -> Stands {
 
 fn put_role(tag: u8, value: u8) {
     match tag {
-        2 => {
+        tags::SLAVE => {
             if value % 2 == 1 {
                 put(b"slave byte, read            ");
                 return;
             }
             put(b"slave byte, write           ");
         }
-        3 => put(b"address, high               "),
-        4 => put(b"address, low                "),
-        5 => put(b"data                        "),
-        6 => put(b"for the control register    "),
-        7 => put(b"sent by the part            "),
-        8 => put(b"register, sent by the part  "),
+        tags::HIGH => put(b"address, high               "),
+        tags::LOW => put(b"address, low                "),
+        tags::DATA => put(b"data                        "),
+        tags::REGISTER => put(b"for the control register    "),
+        tags::SENT => put(b"sent by the part            "),
+        tags::REGISTER_SENT => put(b"register, sent by the part  "),
         _ => put(b"not heard                   "),
     }
 }
@@ -185,7 +186,7 @@ fn put_station(value: u8) {
 fn ninth(stands: Stands, value: u8) -> Stands {
     match stands {
         Stands::InByte(tag) => match tag {
-            7 | 8 => put_station(value),
+            tags::SENT | tags::REGISTER_SENT => put_station(value),
             _ => put_answer(value),
         },
         Stands::InSample(_) => put(b"\n  ninth clock of a byte that came before\n"),
@@ -200,8 +201,8 @@ fn put_entry(stands: Stands, number: u32) -> Stands {
     let tag = (number / 256 % 16) as u8;
     let value = (number % 256) as u8;
     match tag {
-        2..=9 => byte(stands, tag, value),
-        10 => ninth(stands, value),
+        tags::SLAVE..=tags::UNHEARD => byte(stands, tag, value),
+        tags::NINTH => ninth(stands, value),
         _ => event(stands, place, tag, value),
     }
 }

@@ -1,5 +1,7 @@
 // A capture as a list of what went over the bus: starts, stops, bytes, ninth bits, write cycles and
 // resets, each a number with the place of its sample.
+pub mod tags;
+
 use part::cases;
 use part::state::Phase;
 use part::state::State;
@@ -40,15 +42,15 @@ fn role(phase: Phase) -> u8
     ensures { λ r. ⌜ r < 16 ⌝ }
 {
     match phase {
-        Phase::Slave => 2,
-        Phase::High => 3,
-        Phase::Low => 4,
-        Phase::Data => 5,
-        Phase::Register => 6,
-        Phase::Send => 7,
-        Phase::SendRegister => 8,
-        Phase::Idle => 9,
-        Phase::Silent => 9,
+        Phase::Slave => tags::SLAVE,
+        Phase::High => tags::HIGH,
+        Phase::Low => tags::LOW,
+        Phase::Data => tags::DATA,
+        Phase::Register => tags::REGISTER,
+        Phase::Send => tags::SENT,
+        Phase::SendRegister => tags::REGISTER_SENT,
+        Phase::Idle => tags::UNHEARD,
+        Phase::Silent => tags::UNHEARD,
     }
 }
 
@@ -66,14 +68,18 @@ fn number(place: usize, entry: Entry) -> u32
     ensures { λ r. ⌜ r ≡ numberOf (record { place = place; entry = entry }) ⌝ }
 {
     match entry {
-        Entry::Start(bits) => packed(place, 0, bits),
-        Entry::Stop(bits) => packed(place, 1, bits),
+        Entry::Start(bits) => packed(place, tags::START, bits),
+        Entry::Stop(bits) => packed(place, tags::STOP, bits),
         Entry::Byte(phase, value) => packed(place, role(phase), value),
-        Entry::Ninth(line, own) => packed(place, 10, cases::worth(line, 1) + cases::worth(own, 2)),
-        Entry::CycleBegins => packed(place, 11, 0),
-        Entry::CycleEnds => packed(place, 12, 0),
-        Entry::ResetBegins => packed(place, 13, 0),
-        Entry::ResetEnds => packed(place, 14, 0),
+        Entry::Ninth(line, own) => packed(
+            place,
+            tags::NINTH,
+            cases::worth(line, 1) + cases::worth(own, 2),
+        ),
+        Entry::CycleBegins => packed(place, tags::CYCLE_BEGINS, 0),
+        Entry::CycleEnds => packed(place, tags::CYCLE_ENDS, 0),
+        Entry::ResetBegins => packed(place, tags::RESET_BEGINS, 0),
+        Entry::ResetEnds => packed(place, tags::RESET_ENDS, 0),
     }
 }
 
