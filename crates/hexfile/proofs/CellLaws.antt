@@ -93,14 +93,6 @@ pub settle-done : (cs array whole : List ℕ) (i : ℕ) → length cs ≤ i → 
 settle-done cs array whole i p q e =
     sym (append-nil array) ∙ (rw (take-all i array q, drop-of-length-le cs p) at e)
 
--- The byte at an index decides, with those behind it, whether all are blank.
-pub blank-turn : (bs : List ℕ) (i : ℕ) → i < length bs
-    → blankOf (drop i bs) ≡ both (eqb (getD bs i 0) blankByte) (blankOf (drop (suc i) bs))
-blank-turn bs i h = rw (drop-cons bs i 0 h)
-
-pub blank-done : (bs : List ℕ) (i : ℕ) → length bs ≤ i → blankOf (drop i bs) ≡ true
-blank-done bs i h = rw (drop-of-length-le bs h)
-
 -- Blank bytes are as many times FFh.
 pub blank-same : (bs : List ℕ) → blankOf bs ≡ true → bs ≡ replicate (length bs) blankByte
 blank-same [] e = refl

@@ -1,33 +1,41 @@
--- `hexfile::rows::blank` meets its contract: the bytes left are blank exactly if all of them are.
-use Prim.Native.Nat.{_≤_, _-_}
+-- `hexfile::rows::blank` meets its contract: the bytes seen and the bytes left are blank exactly if all of them are.
+use Prim.Native.Nat.{ℕ, _+_, _-_, _<_, _≤_}
+use mathlib.Core.Bool.{Bool, true, false, _&&_}
+use mathlib.Core.List.{List}
 use mathlib.Core.Path.{_≡_, refl, sym, _∙_}
 use native.Mathlib.Omega.{arith}
 use native.Mathlib.Numerals.{add-one}
 use borrow.Author.Needs.{needs}
-use borrow.Author.Tests.{eq-eqb, ne-eqb}
-use lib.ListN.{length, drop}
-use Rattle.hexfile.specs.Cells.{blankOf}
-use Rattle.hexfile.proofs.CellLaws.{blank-turn, blank-done}
+use lib.Dec.{eqb}
+use lib.ListN.{length, getD, drop, drop-of-length-le}
+use lib.Seq.{drop-cons}
+use Rattle.part.specs.Cases.{both}
+use Rattle.hexfile.specs.Cells.{blankByte, blankOf}
 use Rattle.hexfile.proofs.rows.blank.Statement.{statement}
 use Rattle.hexfile.proofs.rows.blank.Tie as tie
 
+-- One turn: the byte at an index is tested, and what is left is tested behind it.
+turn : (bs : List ℕ) (i : ℕ) (all : Bool) → i < length bs
+    → both (all && eqb (getD bs i 0) blankByte) (blankOf (drop (i + 1) bs)) ≡ both all (blankOf (drop i bs))
+turn bs i true h = rw (add-one i, drop-cons bs i 0 h)
+turn bs i false h = refl
+
+-- Past the last byte the test stands.
+done : (bs : List ℕ) (i : ℕ) (all : Bool) → length bs ≤ i → both all (blankOf (drop i bs)) ≡ all
+done bs i true h = rw (drop-of-length-le bs h)
+done bs i false h = refl
+
 abbrev Inv-loop : tie.InvT-loop
-Inv-loop bytes i₀ i = (i ≤ length bytes) × (blankOf bytes ≡ blankOf (drop i bytes))
+Inv-loop bytes all₀ i₀ all i = (i ≤ length bytes) × (both all (blankOf (drop i bytes)) ≡ blankOf bytes)
 
 abbrev μ-loop : tie.MeasureT-loop
-μ-loop bytes i₀ i = length bytes - i
+μ-loop bytes all₀ i₀ all i = length bytes - i
 
 loop-holds : tie.Need-loop-holds Inv-loop μ-loop
 loop-holds c = (search needs, refl)
 
-shared-slice-read-if1 : tie.Need-shared-slice-read-if1 Inv-loop μ-loop
-shared-slice-read-if1 c = search needs
-
-returns : tie.Need-returns Inv-loop μ-loop
-returns c =
-    let at = c .before .before .before .loop in
-    let e = blank-turn (c .before .before .before .before .args .bytes .now) (at .i) (omega arith) in
-    rw (at .inv .1, e, ne-eqb _ _ (c .if1 .taken))
+shared-slice-read-all : tie.Need-shared-slice-read-all Inv-loop μ-loop
+shared-slice-read-all c = search needs
 
 add-i : tie.Need-add-i Inv-loop μ-loop
 add-i c = search needs
@@ -37,25 +45,16 @@ loop-less c = search needs
 
 loop-again : tie.Need-loop-again Inv-loop μ-loop
 loop-again c =
-    let at = c .before .before .before .loop in
-    let e = blank-turn (c .before .before .before .before .args .bytes .now) (at .i) (omega arith) in
-    (omega arith, rw (add-one, at .inv .1, e, eq-eqb _ _ (c .if1 .left)))
+    let at = c .before .before .loop in
+    let e = turn (c .before .before .before .args .bytes .now) (at .i) (at .all) (omega arith) in
+    (omega arith, e ∙ at .inv .1)
 
-returns-2 : tie.Need-returns-2 Inv-loop μ-loop
-returns-2 c =
+returns : tie.Need-returns Inv-loop μ-loop
+returns c =
     let at = c .before .loop in
-    sym (at .inv .1 ∙ blank-done (c .before .before .args .bytes .now) (at .i) (omega arith))
+    sym (done (c .before .before .args .bytes .now) (at .i) (at .all) (omega arith)) ∙ at .inv .1
 
 pub blank-spec : {M : Type 1} → statement M
 blank-spec =
     tie.close
-    (tie.spec
-    Inv-loop
-    μ-loop
-    loop-holds
-    shared-slice-read-if1
-    returns
-    add-i
-    loop-less
-    loop-again
-    returns-2)
+    (tie.spec Inv-loop μ-loop loop-holds shared-slice-read-all add-i loop-less loop-again returns)
