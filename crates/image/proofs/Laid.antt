@@ -17,7 +17,7 @@ use Rattle.hexfile.specs.Cells.{blankOf}
 use Rattle.hexfile.proofs.PairLaws.{length-textOf}
 use Rattle.image.specs.Form.{imageSize}
 use Rattle.image.specs.Writing.{fieldsOf, recordText, rowBy, rowsText, imageText, writtenBy, rowsWritten, lengthOf, mostLength}
-use Rattle.image.specs.Parts.{PutsRow, PutsRows}
+use Rattle.image.specs.Parts.{headOf, tailOf, PutsHead, PutsRow, PutsRows}
 use Rattle.image.specs.Promises.{writeVerdict, WritesImage}
 
 -- The digits of bytes that follow each other.
@@ -52,41 +52,36 @@ pub length-row : (b : Bool) (address : ℕ) (row : List ℕ) → length row ≡ 
 length-row true address row h = refl
 length-row false address row h = length-record address 0 row ∙ rw h
 
--- What a record is laid as: a character, three texts, and a last character.
-five-laid : (h b t out : List ℕ) (at c f : ℕ) {n m r q : ℕ}
-    → n ≡ at + 1 → m ≡ n + length h → r ≡ m + length b → q ≡ r + length t
-    → set (sets (sets (sets (set out at c) n h) m b) r t) q f ≡ sets out at (c ∷ h ++ (b ++ (t ++ (f ∷ []))))
-five-laid h b t out at c f {n} {m} {r} {q} e g k l =
-    sets-append t (f ∷ []) (sets (sets (set out at c) n h) m b) r q l
-    ∙ sets-append b (t ++ (f ∷ [])) (sets (set out at c) n h) m r k
-    ∙ sets-append h (b ++ (t ++ (f ∷ []))) (set out at c) n m g
-    ∙ rw (e, add-one at)
+-- A record's colon and head, as the code takes its bytes, are what the head promises: its remainders lose nothing.
+pub head-laid : (count address type : ℕ) (out : List ℕ) (at : ℕ) {h out′ : List ℕ} {r : ℕ} → address < 65536
+    → h ≡ count ∷ address / 256 % 256 ∷ address % 256 ∷ type ∷ []
+    → out′ ≡ sets (set out at 58) (at + 1) (textOf h) → r ≡ (0 + sumOf h) % 256
+    → PutsHead count address type out at r out′
+head-laid count address type out at {h} p e f g =
+    let b : address / 256 % 256 ≡ address / 256 = omega arith in
+    let k : h ≡ headOf count address type = e ∙ rw b in
+    record { said = rw (f, k, add-one at); sum = g ∙ rw (k, zero-add) }
 
--- The byte that brings two sums to 0, from the first and then the second modulo 256.
-check-by : (h b : ℕ) {s t k : ℕ} → s ≡ (0 + h) % 256 → t ≡ (s + b) % 256 → k ≡ (256 - t) % 256
-    → k ≡ (256 - (h + b) % 256) % 256
-check-by h b {s} {t} e f g = let d : t ≡ (h + b) % 256 = omega arith in rw (g, d)
-
--- A record's bytes before its data, as the code takes them.
-abbrev headOf : ℕ → ℕ → List ℕ → List ℕ
-headOf address type bs = length bs % 256 ∷ address / 256 % 256 ∷ address % 256 ∷ type ∷ []
-
--- A record's parts laid one after the other are its line, where nothing of it is lost to the head's remainders.
-pub record-laid : (address type : ℕ) (bs out : List ℕ) (at : ℕ) {s t k : ℕ} → address < 65536 → length bs < 256
-    → s ≡ (0 + sumOf (headOf address type bs)) % 256 → t ≡ (s + sumOf bs) % 256 → k ≡ (256 - t) % 256
-    → set (sets (sets (sets (set out at 58) (at + 1) (textOf (headOf address type bs))) (at + 9) (textOf bs))
-    (at + 9 + 2 * length bs) (textOf (k ∷ []))) (at + 9 + 2 * length bs + 2) 10
+-- A record's head, data and tail laid one after the other are its line.
+line-laid : (address type : ℕ) (bs out : List ℕ) (at : ℕ) {next sum : ℕ} → next ≡ at + 9 + 2 * length bs
+    → sum ≡ (sumOf (headOf (length bs) address type) + sumOf bs) % 256
+    → sets (sets (sets out at (58 ∷ textOf (headOf (length bs) address type))) (at + 9) (textOf bs)) next (tailOf sum)
     ≡ sets out at (recordText address type bs)
 unfolding recordText
-record-laid address type bs out at {s} {t} {k} p q e f g =
-    let a : length bs % 256 ≡ length bs = omega arith in
-    let b : address / 256 % 256 ≡ address / 256 = omega arith in
-    let head = length bs ∷ address / 256 ∷ address % 256 ∷ type ∷ [] in
-    let h = check-by (sumOf head) (sumOf bs) (rw (a, b) at e) f g in
-    let d : k ≡ checkOf (fieldsOf address type bs) = h ∙ rw (sum-append head bs) in
-    five-laid (textOf (headOf address type bs)) (textOf bs) (textOf (k ∷ [])) out at 58 10
-    refl (omega arith) (omega (arith, length-textOf bs)) (omega arith)
-    ∙ rw (a, b, d, text-append bs, append-assoc)
+line-laid address type bs out at {next} {sum} n e =
+    let head = headOf (length bs) address type in
+    let k = checkOf (fieldsOf address type bs) in
+    let d : (256 - sum) % 256 ≡ k = rw (e, sum-append head bs) in
+    sets-append (textOf bs) (tailOf sum) (sets out at (58 ∷ textOf head)) (at + 9) next (omega (arith, length-textOf bs))
+    ∙ sets-append (58 ∷ textOf head) (textOf bs ++ tailOf sum) out at (at + 9) (omega arith)
+    ∙ rw (d, text-append bs (k ∷ []), append-assoc (textOf bs) (textOf (k ∷ [])) (10 ∷ []))
+
+-- The same where the count of the data is known.
+pub record-laid : (address type : ℕ) (bs out : List ℕ) (at : ℕ) {count next sum : ℕ}
+    → length bs ≡ count → next ≡ at + 9 + 2 * count → sum ≡ (sumOf (headOf count address type) + sumOf bs) % 256
+    → sets (sets (sets out at (58 ∷ textOf (headOf count address type))) (at + 9) (textOf bs)) next (tailOf sum)
+    ≡ sets out at (recordText address type bs)
+record-laid address type bs out at l n e = rw (← l) (line-laid address type bs out at (rw (← l) at n) (rw (← l) at e))
 
 -- A row is written once at most.
 written-most : (b : Bool) → writtenBy b ≤ 1

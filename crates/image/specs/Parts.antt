@@ -1,15 +1,17 @@
 -- What the inner functions promise each other, in named parts; the operations' own promises stand in Promises.
-use Prim.Native.Nat.{ℕ, _+_, _*_, _/_}
+use Prim.Native.Nat.{ℕ, _+_, _-_, _*_, _/_, _%_}
 use mathlib.Core.Bool.{Bool, true, false}
-use mathlib.Core.List.{List, _++_}
+use mathlib.Core.List.{List, [], _∷_, _++_}
 use mathlib.Core.Path.{_≡_}
 use lib.ListN.{length, take, drop}
 use lib.Seq.{sets}
-use Rattle.hexfile.specs.Lines.{linesOf}
+use Rattle.part.specs.Numbers.{byteValues}
+use Rattle.hexfile.specs.Lines.{lineFeed, linesOf}
+use Rattle.hexfile.specs.Pairs.{textOf, sumOf}
 use Rattle.hexfile.specs.Cells.{freshOf, giveOf, settledOf, blankOf}
 use Rattle.refusals.specs.Refusals.{meant}
 use Rattle.refusals.specs.declared.Reply.{Reply}
-use Rattle.image.specs.Form.{bytesOf, wellFormed, fitsIn}
+use Rattle.image.specs.Form.{colon, bytesOf, wellFormed, fitsIn}
 use Rattle.image.specs.Reading.{Heard, gives, ends, faulty, saysMeant, givenOf, saysBy, recordSays, saysOf, linesRead}
 use Rattle.image.specs.Writing.{rowBy, writtenBy, rowLength, imageText, lengthOf}
 use Rattle.image.specs.Promises.{verdictOf, arrayAfter}
@@ -50,6 +52,19 @@ pub record ReadsLines (text cells : List ℕ) (r : Reply) (cells′ : List ℕ) 
 pub record ReadsInto (text cells array : List ℕ) (r : Reply) (array′ : List ℕ) : Type 0 where
   pub reply : meant r ≡ verdictOf (linesRead (length text) 0 cells (linesOf text)) (length text)
   pub kept : array′ ≡ arrayAfter (linesRead (length text) 0 cells (linesOf text)) array
+
+-- A record's bytes before its data.
+abbrev pub headOf : ℕ → ℕ → ℕ → List ℕ
+headOf count address type = count ∷ address / byteValues ∷ address % byteValues ∷ type ∷ []
+
+-- What follows a record's data, for the sum of the bytes before.
+abbrev pub tailOf : ℕ → List ℕ
+tailOf sum = textOf ((byteValues - sum) % byteValues ∷ []) ++ (lineFeed ∷ [])
+
+-- A record over a buffer as far as its data, and what its bytes add up to.
+pub record PutsHead (count address type : ℕ) (out : List ℕ) (at r : ℕ) (out′ : List ℕ) : Type 0 where
+  pub said : out′ ≡ sets out at (colon ∷ textOf (headOf count address type))
+  pub sum : r ≡ sumOf (headOf count address type) % byteValues
 
 -- A row over a buffer: its line, unless it is all FFh, and where the next line starts.
 pub record PutsRow (address : ℕ) (row out : List ℕ) (at r : ℕ) (out′ : List ℕ) : Type 0 where

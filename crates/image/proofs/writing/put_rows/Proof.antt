@@ -59,11 +59,8 @@ loop-again c =
     let t = rows-laid array (b .out) (b .at) (b .from) (b .left) (omega arith) (b .inv .0) (rw e) p in
     (omega arith, omega arith, omega arith, t .0 ∙ b .inv .3, t .1 ∙ b .inv .4)
 
-slice-aggregate-put-record : tie.Need-slice-aggregate-put-record Inv-loop μ-loop
-slice-aggregate-put-record c = search needs
-
-put-record-requires : tie.Need-put-record-requires Inv-loop μ-loop
-put-record-requires c κs = (omega arith, (omega arith, omega arith))
+put-end-requires : tie.Need-put-end-requires Inv-loop μ-loop
+put-end-requires c κs = omega arith
 
 add-result : tie.Need-add-result Inv-loop μ-loop
 add-result c = search needs
@@ -73,10 +70,10 @@ same-length c = omega arith
 
 returns : tie.Need-returns Inv-loop μ-loop
 returns c =
-    let b = c .before .before .before .before .before .before .loop in
-    let a = c .before .before .before .before .before .before .before .before .before .args in
+    let b = c .before .before .before .before .before .loop in
+    let a = c .before .before .before .before .before .before .before .before .args in
     rows-done (a .array .now) (b .out) (a .out .now) (b .at) (b .from) (b .left)
-    (omega arith) (c .before .before .put-record .ensures) (b .inv .3) (b .inv .4)
+    (omega arith) (c .before .before .put-end .ensures) (b .inv .3) (b .inv .4)
 
 pub put-rows-spec : {M : Type 1} → statement M
 put-rows-spec =
@@ -93,8 +90,7 @@ put-rows-spec =
     sub-left
     loop-less
     loop-again
-    slice-aggregate-put-record
-    put-record-requires
+    put-end-requires
     add-result
     same-length
     returns)
