@@ -1,16 +1,17 @@
 -- Laws of the cells and of blank bytes that several proofs cite. Assumes nothing.
 use Prim.Native.Nat.{ℕ, zero, suc, _<_, _≤_}
-use mathlib.Core.Bool.{true}
+use mathlib.Core.Bool.{Bool, true, false, _&&_}
 use mathlib.Core.List.{List, [], _∷_, _++_, append-assoc, append-nil}
 use mathlib.Core.Path.{_≡_, refl, ap, sym, _∙_}
 use native.Mathlib.Omega.{arith}
 use lib.Dec.{eqb, ltb}
 use lib.ListN.{length, getD, take, drop, set, replicate, take-append-drop, drop-of-length-le}
 use lib.Seq.{drop-cons, take-suc-set, drop-set-lt, take-all}
-use borrow.Author.Tests.{eqb-true}
+use borrow.Author.Tests.{eqb-true, lt-ltb, ltb-true}
 use Rattle.part.specs.Cases.{both}
 use Rattle.hexfile.specs.Cells.{notGiven, blankByte, freshOf, giveOf, byteBy, settledOf, blankOf}
 use Rattle.part.proofs.Laws.{both-split}
+use Rattle.hexfile.proofs.TestLaws.{and-both, both-true}
 
 -- The rows keep their lengths.
 pub length-giveOf : (cs bs : List ℕ) → length (giveOf cs bs) ≡ length cs
@@ -38,19 +39,27 @@ fresh-none zero bs = refl
 fresh-none (suc n) [] = refl
 fresh-none (suc n) (b ∷ bs) = fresh-none n bs
 
--- The cell at an index decides, with those behind it, whether all are fresh.
-pub fresh-turn : (cs bs : List ℕ) (i : ℕ) → i < length cs → i < length bs
-    → freshOf (drop i cs) (drop i bs) ≡ both (eqb (getD cs i 0) notGiven) (freshOf (drop (suc i) cs) (drop (suc i) bs))
-fresh-turn cs bs i p q = rw (drop-cons cs i 0 p, drop-cons bs i 0 q)
-
 -- No byte is given twice, and none changes a cell, where there is none.
 pub fresh-nil : (cs : List ℕ) → freshOf cs [] ≡ true
 fresh-nil [] = refl
 fresh-nil (c ∷ cs) = refl
 
+-- One turn of the tests: the cell at an index is tested before it is given, and what is left is tested behind it.
+pub fresh-turn : (cs bs : List ℕ) (i v : ℕ) (fresh : Bool) → i < length cs → i < length bs
+    → both (fresh && eqb (getD cs i 0) notGiven) (freshOf (drop (suc i) (set cs i v)) (drop (suc i) bs))
+    ≡ both fresh (freshOf (drop i cs) (drop i bs))
+fresh-turn cs bs i v fresh p q =
+    rw (
+      drop-set-lt (suc i) cs i v (omega arith),
+      and-both fresh (eqb (getD cs i 0) notGiven) (freshOf (drop (suc i) cs) (drop (suc i) bs)),
+      drop-cons cs i 0 p,
+      drop-cons bs i 0 q,
+    )
+
 -- Past the bytes nothing is left to test.
-pub fresh-done : (cs bs : List ℕ) (i : ℕ) → length bs ≤ i → freshOf (drop i cs) (drop i bs) ≡ true
-fresh-done cs bs i h = rw (drop-of-length-le bs h, fresh-nil)
+pub fresh-done : (cs bs : List ℕ) (i : ℕ) (fresh : Bool) {whole : Bool} → length bs ≤ i
+    → both fresh (freshOf (drop i cs) (drop i bs)) ≡ whole → fresh ≡ whole
+fresh-done cs bs i fresh h e = sym (both-true fresh) ∙ (rw (drop-of-length-le bs h, fresh-nil (drop i cs)) at e)
 
 -- One turn of the giving: the byte at an index is given, and what is left is given behind it.
 pub give-turn : (cs bs : List ℕ) (i v : ℕ) → i < length cs → i < length bs → v ≡ getD bs i 0
@@ -81,6 +90,17 @@ pub give-done : (cs bs whole : List ℕ) (i : ℕ) → length bs ≤ i
     → take i cs ++ giveOf (drop i cs) (drop i bs) ≡ whole → cs ≡ whole
 give-done cs bs whole i h e =
     sym (take-append-drop i cs) ∙ (rw (drop-of-length-le bs h, give-nil (drop i cs)) at e)
+
+-- A cell below FFh is given; one that is not holds FFh or is not given.
+pub byte-low : (c : ℕ) → c < blankByte → c ≡ byteBy (ltb c notGiven) c
+byte-low c h = rw (lt-ltb c notGiven (omega arith))
+
+pub byte-high : (c : ℕ) → blankByte ≤ c → blankByte ≡ byteBy (ltb c notGiven) c
+byte-high c h = go (ltb c notGiven) refl
+  where
+    go : (b : Bool) → ltb c notGiven ≡ b → blankByte ≡ byteBy b c
+    go true e = omega (arith, ltb-true c notGiven e)
+    go false e = refl
 
 -- One turn of the settling: the byte of the cell at an index is stored, and what is left settles behind it.
 pub settle-turn : (cs array : List ℕ) (i v : ℕ) → i < length cs → i < length array

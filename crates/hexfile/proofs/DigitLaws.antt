@@ -10,7 +10,7 @@ use Rattle.part.proofs.Laws.{both-split}
 use Rattle.hexfile.specs.Digits.{base, within, digitBy, digitOf, isDigit, glyphOf}
 
 -- A number within two others lies between them.
-within-true : (low high c : ℕ) → within low high c ≡ true → (low ≤ c) × (c ≤ high)
+pub within-true : (low high c : ℕ) → within low high c ≡ true → (low ≤ c) × (c ≤ high)
 within-true low high c e =
     let t = both-split (leb low c) (leb c high) e in
     (leb-true low c (t .0), leb-true c high (t .1))

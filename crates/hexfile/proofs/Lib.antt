@@ -2,3 +2,6 @@ pub mod CellLaws
 pub mod DigitLaws
 pub mod LineLaws
 pub mod PairLaws
+pub mod SumLaws
+pub mod TestLaws
+pub mod WindowLaws

@@ -1,14 +1,16 @@
 -- Laws of a text's lines that several proofs cite. Assumes nothing.
-use Prim.Native.Nat.{ℕ, suc, _+_, _-_, _<_, _≤_}
+use Prim.Native.Nat.{ℕ, zero, suc, _+_, _-_, _<_, _≤_}
 use mathlib.Core.Bool.{Bool, true, false}
 use mathlib.Core.List.{List, [], _∷_, _++_}
 use mathlib.Core.Path.{_≡_, refl, ap, sym, _∙_}
 use native.Mathlib.Omega.{arith}
 use lib.Dec.{eqb}
 use lib.ListN.{length, getD, take, drop, length-drop, drop-of-length-le}
-use lib.Seq.{drop-cons, getD-take, getD-drop, length-take-le, take-length}
+use lib.Seq.{drop-cons, drop-drop, getD-take, getD-drop, length-take-le, take-length}
 use borrow.Author.Tests.{eq-eqb, ne-eqb}
 use Rattle.hexfile.specs.Lines.{lineFeed, carriageReturn, joinBy, linesOf, firstLine, trimBy, trimmed, stepOf, lineAt, noLine}
+use Rattle.hexfile.specs.Parts.{feedIn, Skips}
+use Rattle.hexfile.proofs.TestLaws.{either-split}
 
 -- A character that ends no line stands at the start of the first line.
 first-join : (c : ℕ) (ls : List (List ℕ)) → firstLine (joinBy false c ls) ≡ c ∷ firstLine ls
@@ -87,6 +89,24 @@ first-turn xs i h e =
 
 pub first-none : (xs : List ℕ) (i : ℕ) → length xs ≤ i → firstLine (linesOf (drop i xs)) ≡ []
 first-none xs i h = rw (drop-of-length-le xs h)
+
+-- Characters without a line feed belong to the first line.
+first-past : (k : ℕ) (xs : List ℕ) → k ≤ length xs → feedIn (take k xs) ≡ false
+    → length (firstLine (linesOf xs)) ≡ k + length (firstLine (linesOf (drop k xs)))
+first-past zero xs h e = omega arith
+first-past (suc k) [] h e = absurd (omega arith)
+first-past (suc k) (c ∷ cs) h e =
+    let t = either-split (eqb c lineFeed) (feedIn (take k cs)) e in
+    let n = first-past k cs (omega arith) (t .1) in
+    rw (t .0, first-join c (linesOf cs)) (omega arith)
+
+-- So a line ends where it does from behind them.
+pub skip-window : (text : List ℕ) (at i w : ℕ) {r : Bool} → i + w ≤ length text
+    → r ≡ feedIn (take (i + w - i) (drop i text)) → r ≡ false → Skips text at i → Skips text at (i + w)
+skip-window text at i w h e f s =
+    let m : i + w - i ≡ w = omega arith in
+    let n = first-past w (drop i text) (simp length-drop (omega arith)) (rw m at (sym e ∙ f)) in
+    record { inside = h; ends = s .ends ∙ (let k = rw drop-drop at n in omega arith) }
 
 -- What is trimmed is the line, or all of it but its last character.
 pub trim-none : (l : List ℕ) → (getD l (length l - 1) 0 ≡ carriageReturn → ⊥) → trimmed l ≡ l

@@ -65,47 +65,11 @@ text-pairs (a ∷ b ∷ cs) e =
     rw (t .0, t .1, text-pairs cs (d .2))
 
 -- Two characters from an index on, and what follows them.
-two : (cs : List ℕ) (at : ℕ) → at + 2 ≤ length cs
+pub two : (cs : List ℕ) (at : ℕ) → at + 2 ≤ length cs
     → drop at cs ≡ getD cs at 0 ∷ getD cs (at + 1) 0 ∷ drop (at + 2) cs
 two cs at h =
     let e : at + 2 ≡ suc (suc at) = omega arith in
     rw (add-one at, e, drop-cons cs at 0 (omega arith), drop-cons cs (suc at) 0 (omega arith))
-
--- One turn of the decoding: a pair's byte is stored, and what is left is decoded after it.
-pub decode-turn : (text room : List ℕ) (from i : ℕ) {hi lo : ℕ} → from + 2 ≤ length text → i < length room
-    → hi ≡ digitOf (getD text from 0) → lo ≡ digitOf (getD text (from + 1) 0) → hi < 16 → lo < 16
-    → (paired (drop from text) ≡ paired (drop (from + 2) text))
-    × (take (i + 1) (set room i (hi * 16 + lo)) ++ pairsOf (drop (from + 2) text) ≡ take i room ++ pairsOf (drop from text))
-decode-turn text room from i {hi} {lo} h p e f k l = (
-  rw (two text from h, ← e, ← f, lt-ltb hi 16 k, lt-ltb lo 16 l),
-  rw (add-one i, take-suc-set room i (hi * 16 + lo) p, two text from h, append-assoc, e, f),
-)
-
--- A text is not made of pairs of digits where one of two characters is no digit.
-pub undecoded : (text room : List ℕ) (from : ℕ) {hi lo : ℕ} → from + 2 ≤ length text → paired text ≡ paired (drop from text)
-    → hi ≡ digitOf (getD text from 0) → lo ≡ digitOf (getD text (from + 1) 0) → both (ltb hi 16) (ltb lo 16) ≡ false
-    → Decodes text false room
-undecoded text room from h e f g k = record {
-  said = sym (rw (two text from h, ← f, ← g, k) at e);
-  bytes = λ t. absurd (let z : _≡_ {A = ℕ} 0 1 = cc in omega arith);
-}
-
--- Where fewer than two characters are left they make no byte, and are pairs exactly if there is none.
-few : (from : ℕ) (text : List ℕ) → from ≤ length text → length text < from + 2
-    → (eqb from (length text) ≡ paired (drop from text)) × (pairsOf (drop from text) ≡ [])
-few zero [] h k = (refl, refl)
-few zero (a ∷ []) h k = (refl, refl)
-few zero (a ∷ b ∷ cs) h k = absurd (omega arith)
-few (suc n) [] h k = absurd (omega arith)
-few (suc n) (a ∷ cs) h k = rw (eqb·suc-suc n (length cs)) (few n cs (omega arith) (omega arith))
-
--- The decoding is done there: the room starts with the bytes.
-pub decoded : (text room : List ℕ) (from i : ℕ) → from ≤ length text → length text < from + 2 → i ≤ length room
-    → paired text ≡ paired (drop from text) → take i room ++ pairsOf (drop from text) ≡ pairsOf text
-    → Decodes text (eqb from (length text)) room
-decoded text room from i h k p e f =
-    let g : take i room ≡ pairsOf text = rw (few from text h k .1, append-nil) at f in
-    record { said = few from text h k .0 ∙ sym e; bytes = λ _. rw (← g, length-take-le i room p) }
 
 -- One turn of the encoding: a byte's two characters are stored, and what is left is encoded after them.
 pub encode-turn : (bytes out : List ℕ) (to i b : ℕ) → i < length bytes → b ≡ getD bytes i 0

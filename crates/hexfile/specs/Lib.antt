@@ -3,3 +3,4 @@ pub mod Lines
 pub mod Pairs
 pub mod Cells
 pub mod Promises
+pub mod Parts

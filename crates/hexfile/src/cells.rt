@@ -2,7 +2,8 @@
 ghost use mathlib.Core.Path.{_≡_};
 ghost use Prim.Native.Nat.{_≤_};
 ghost use lib.ListN.{length};
-ghost use Rattle.hexfile.specs.Cells.{freshOf, giveOf, byteBy, settledOf};
+ghost use Rattle.hexfile.specs.Cells.{byteBy, settledOf};
+ghost use Rattle.hexfile.specs.Promises.{GivesTo};
 ghost use lib.Dec.{ltb};
 
 pub const NOT_GIVEN: u16 = 256;
@@ -10,31 +11,19 @@ pub const NOT_GIVEN: u16 = 256;
 // What a byte holds that no file gives.
 pub const BLANK: u8 = 0xFF;
 
-// Whether none of the first cells, one for each byte, is given yet.
-pub fn fresh(cells: &[u16], bytes: &[u8]) -> bool
+// Gives the bytes to the first cells, and answers whether none of these was given before.
+pub fn give(cells: &mut [u16], bytes: &[u8]) -> bool
     requires { ⌜ length (now bytes) ≤ length (now cells) ⌝ }
-    ensures { λ r. ⌜ r ≡ freshOf (now (cells .entry)) (now (bytes .entry)) ⌝ }
+    ensures { λ r. ⌜ GivesTo (now (cells .entry)) (now (bytes .entry)) r (now (cells .exit)) ⌝ }
 {
+    let mut fresh = true;
     let mut i = 0;
     while i < bytes.len() {
-        if cells[i] != NOT_GIVEN {
-            return false;
-        }
-        i += 1;
-    }
-    true
-}
-
-// Gives the bytes to the first cells.
-pub fn give(cells: &mut [u16], bytes: &[u8])
-    requires { ⌜ length (now bytes) ≤ length (now cells) ⌝ }
-    ensures { λ _. ⌜ now (cells .exit) ≡ giveOf (now (cells .entry)) (now (bytes .entry)) ⌝ }
-{
-    let mut i = 0;
-    while i < bytes.len() {
+        fresh = fresh & (cells[i] == NOT_GIVEN);
         cells[i] = wide(bytes[i]);
         i += 1;
     }
+    fresh
 }
 
 fn wide(byte: u8) -> u16
@@ -43,11 +32,11 @@ fn wide(byte: u8) -> u16
     byte as u16
 }
 
-// The byte of a cell: `BLANK` where it is not given.
+// The byte of a cell: `BLANK` where it is not given, and that is the largest byte, so that one test does.
 fn byte_of(cell: u16) -> u8
     ensures { λ r. ⌜ r ≡ byteBy (ltb cell 256) cell ⌝ }
 {
-    if cell < NOT_GIVEN {
+    if cell < wide(BLANK) {
         return cell as u8;
     }
     BLANK

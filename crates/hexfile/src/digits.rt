@@ -1,28 +1,44 @@
 // Hexadecimal digits, upper case.
 ghost use mathlib.Core.Path.{_≡_};
 ghost use Prim.Native.Nat.{_<_, _/_, _%_};
-ghost use Rattle.hexfile.specs.Digits.{digitOf, glyphOf};
+ghost use lib.Dec.{ltb};
+ghost use Rattle.hexfile.specs.Digits.{within, isDigit, glyphOf};
+ghost use Rattle.hexfile.specs.Parts.{shiftBy, valueOf};
 
-// How many digits there are; as an answer of `digit` it says that a character is none.
+// How many digits there are.
 pub const BASE: u8 = 16;
 
-// The value of a character as a digit, or `BASE` where it is none.
-pub fn digit(character: u8) -> u8
-    ensures { λ r. ⌜ r ≡ digitOf character ⌝ }
+fn within(low: u8, high: u8, character: u8) -> bool
+    ensures { λ r. ⌜ r ≡ within low high character ⌝ }
 {
-    if character < 0x30 {
-        return BASE;
+    if character >= low {
+        return character <= high;
     }
-    if character <= 0x39 {
-        return character - 0x30;
-    }
+    false
+}
+
+// Whether a character is a digit.
+pub fn is_digit(character: u8) -> bool
+    ensures { λ r. ⌜ r ≡ isDigit character ⌝ }
+{
+    within(0x30, 0x39, character) | within(0x41, 0x46, character)
+}
+
+// What a letter's value has beyond its lower four bits.
+fn shift(character: u8) -> u8
+    ensures { λ r. ⌜ r ≡ shiftBy (ltb character 0x41) ⌝ }
+{
     if character < 0x41 {
-        return BASE;
+        return 0;
     }
-    if character <= 0x46 {
-        return character - 0x37;
-    }
-    BASE
+    9
+}
+
+// The value of a digit; of any other character it means nothing.
+pub fn value(character: u8) -> u8
+    ensures { λ r. ⌜ r ≡ valueOf character ⌝ }
+{
+    (character % BASE + shift(character)) % BASE
 }
 
 fn glyph(value: u8) -> u8

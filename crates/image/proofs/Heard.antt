@@ -1,20 +1,21 @@
 -- Laws of one line: whether it is well formed, and what its bytes say to the cells. Assumes nothing.
-use Prim.Native.Nat.{ℕ, _+_, _*_, _-_, _/_, _%_, _≤_, _<_}
+use Prim.Native.Nat.{ℕ, zero, suc, _+_, _*_, _-_, _/_, _%_, _≤_, _<_}
 use mathlib.Core.Bool.{Bool, true, false}
 use mathlib.Core.List.{List, [], _∷_}
 use mathlib.Core.Path.{_≡_, refl, ap, sym, _∙_}
 use native.Mathlib.Omega.{arith}
 use lib.Dec.{eqb}
 use lib.ListN.{length, getD, take, drop, length-drop, length-take}
-use lib.Seq.{length-take-le, getD-take}
+use lib.Seq.{length-take-le, getD-take, take-nil}
 use borrow.Author.Tests.{eq-eqb, ne-eqb, eqb-true}
 use Rattle.part.specs.Cases.{both}
 use Rattle.hexfile.specs.Digits.{isDigit}
-use Rattle.hexfile.specs.Pairs.{paired, pairsOf, sumOf}
-use Rattle.hexfile.specs.Promises.{Decodes}
+use Rattle.hexfile.specs.Pairs.{paired, pairsOf, sumsToZero}
+use Rattle.hexfile.specs.Promises.{Decodes, SumsUp}
 use Rattle.part.proofs.Laws.{both-split}
 use Rattle.hexfile.proofs.PairLaws.{pair-fits, length-pairsOf}
 use Rattle.hexfile.proofs.CellLaws.{fresh-nil}
+use Rattle.hexfile.proofs.WindowLaws.{tail-whole}
 use Rattle.image.specs.Form.{bytesOf, countOf, addressOf, typeOf, dataOf, wellFormed, typed, inside}
 use Rattle.image.specs.Reading.{fresh, givenOf, recordSays, saysOf}
 use Rattle.image.specs.Parts.{Forms, Places, Judges, Hears}
@@ -26,40 +27,29 @@ both-fails : (p : Bool) → both p false ≡ false
 both-fails true = refl
 both-fails false = refl
 
--- Bytes of a wrong sum.
-pub judge-unsound : (bs cells : List ℕ) (s : ℕ) → s ≡ (0 + sumOf bs) % 256 → (s ≡ 0 → ⊥) → Judges bs cells (Faulty 13) cells
-unfolding recordSays
-judge-unsound bs cells s e h =
-    let k : sumOf bs % 256 ≡ 0 → ⊥ = λ z. h (omega arith) in
-    record { said = rw (ne-eqb (sumOf bs % 256) 0 k); kept = refl }
-
 -- Bytes of a type that is not taken.
-pub judge-untyped : (bs cells : List ℕ) (s : ℕ) → s ≡ (0 + sumOf bs) % 256 → s ≡ 0 → typed bs ≡ false → Judges bs cells (Faulty 14) cells
+pub judge-untyped : (bs cells : List ℕ) → sumsToZero bs ≡ true → typed bs ≡ false → Judges bs cells (Faulty 14) cells
 unfolding recordSays
-judge-untyped bs cells s e h t =
-    let k : sumOf bs % 256 ≡ 0 = omega arith in
-    record { said = rw (eq-eqb (sumOf bs % 256) 0 k, t); kept = refl }
+judge-untyped bs cells s t = record { said = rw (s, t); kept = refl }
 
 -- The end record gives nothing, wherever.
-pub judge-end : (bs cells : List ℕ) (s : ℕ) → s ≡ (0 + sumOf bs) % 256 → s ≡ 0 → typed bs ≡ true → typeOf bs ≡ 1 → Judges bs cells Ends cells
+pub judge-end : (bs cells : List ℕ) → sumsToZero bs ≡ true → typed bs ≡ true → typeOf bs ≡ 1 → Judges bs cells Ends cells
 unfolding recordSays typed inside fresh
-judge-end bs cells s e h t y =
-    let k : sumOf bs % 256 ≡ 0 = omega arith in
+judge-end bs cells s t y =
     let b : both (eqb (countOf bs) 0) (eqb (addressOf bs) 0) ≡ true = rw y at t in
     let n : countOf bs ≡ 0 = eqb-true (countOf bs) 0 (both-split (eqb (countOf bs) 0) (eqb (addressOf bs) 0) b .0) in
-    record { said = rw (eq-eqb (sumOf bs % 256) 0 k, y, b, n, fresh-nil (drop (addressOf bs) cells)); kept = refl }
+    record { said = rw (s, y, b, n, fresh-nil (drop (addressOf bs) cells)); kept = refl }
 
 -- The bytes of a data record say what its data do at its address.
-pub judge-placed : (bs cells cells′ : List ℕ) (r : Says) (s : ℕ) → s ≡ (0 + sumOf bs) % 256 → s ≡ 0 → typed bs ≡ true
+pub judge-placed : (bs cells cells′ : List ℕ) (r : Says) → sumsToZero bs ≡ true → typed bs ≡ true
     → (typeOf bs ≡ 1 → ⊥) → length bs ≡ 5 + countOf bs
     → Places (addressOf bs) (take (length bs - 1 - 4) (drop 4 bs)) cells r cells′ → Judges bs cells r cells′
 unfolding recordSays inside fresh givenOf
-judge-placed bs cells cells′ r s e h t y m q =
-    let k : sumOf bs % 256 ≡ 0 = omega arith in
+judge-placed bs cells cells′ r s t y m q =
     let d : length bs - 1 - 4 ≡ countOf bs = omega arith in
     let p : Places (addressOf bs) (dataOf bs) cells r cells′ = rw d at q in
     let n : length (dataOf bs) ≡ countOf bs = length-take-le (countOf bs) (drop 4 bs) (simp length-drop (omega arith)) in
-    record { said = rw (eq-eqb (sumOf bs % 256) 0 k, t, ne-eqb (typeOf bs) 1 y) (rw n at (p .said)); kept = p .kept }
+    record { said = rw (s, t, ne-eqb (typeOf bs) 1 y) (rw n at (p .said)); kept = p .kept }
 
 -- A count is a byte.
 count-fits : (cs : List ℕ) → paired cs ≡ true → getD (pairsOf cs) 0 0 < 256
@@ -85,20 +75,20 @@ unformed-by-length line h =
 pub unformed : (line room : List ℕ) → wellFormed line ≡ false → Forms line false room
 unformed line room h = record { said = sym h; bytes = λ t. absurd (let z : _≡_ {A = ℕ} 0 1 = cc in omega arith) }
 
-pub short-unformed : (line room : List ℕ) → length line < 11 → Forms line false room
+short-unformed : (line room : List ℕ) → length line < 11 → Forms line false room
 short-unformed line room h = unformed line room (unformed-by-length line (λ _ e. omega arith))
 
-pub long-unformed : (line room : List ℕ) → 521 < length line → Forms line false room
+long-unformed : (line room : List ℕ) → 521 < length line → Forms line false room
 unfolding bytesOf
 long-unformed line room h =
     unformed line room (unformed-by-length line (λ p e. omega (arith, count-fits (drop 1 line) p)))
 
-pub colon-unformed : (line room : List ℕ) → (getD line 0 0 ≡ 0x3A → ⊥) → Forms line false room
+colon-unformed : (line room : List ℕ) → (getD line 0 0 ≡ 0x3A → ⊥) → Forms line false room
 unfolding wellFormed
 colon-unformed line room h = unformed line room (rw (ne-eqb (getD line 0 0) 0x3A h))
 
 -- Past the colon a line is well formed if it is pairs, and of the length that the first byte says.
-pub pairs-unformed : (line room : List ℕ) → Decodes (drop 1 line) false room → Forms line false room
+pairs-unformed : (line room : List ℕ) → Decodes (drop 1 line) false room → Forms line false room
 unfolding wellFormed
 pairs-unformed line room d =
     unformed line room (rw (sym (d .said)) (both-fails (eqb (getD line 0 0) 0x3A)))
@@ -111,7 +101,7 @@ bytes-half line h p =
     let m : 2 * length (pairsOf (drop 1 line)) ≡ length (drop 1 line) = length-pairsOf (drop 1 line) p in
     omega arith
 
-pub formed : (line room : List ℕ) → 11 ≤ length line → getD line 0 0 ≡ 0x3A → Decodes (drop 1 line) true room
+formed : (line room : List ℕ) → 11 ≤ length line → getD line 0 0 ≡ 0x3A → Decodes (drop 1 line) true room
     → Forms line (eqb (length line) (11 + 2 * getD room 0 0)) room
 unfolding wellFormed bytesOf
 formed line room h c d =
@@ -121,6 +111,34 @@ formed line room h c d =
     let n : getD room 0 0 ≡ getD (pairsOf (drop 1 line)) 0 0 =
     sym (getD-take (length line / 2) room 0 0 (omega arith)) ∙ ap (λ (l : List ℕ). getD l 0 0) b in
     record { said = rw (eq-eqb (getD line 0 0) 0x3A c, p, n); bytes = λ _. b }
+
+-- The same of a line that is the first characters of a text.
+line-tail : (text : List ℕ) (n : ℕ) → 1 ≤ n → take (n - 1) (drop 1 text) ≡ drop 1 (take n text)
+line-tail [] n h = rw (take-nil (n - 1), take-nil n)
+line-tail (c ∷ cs) zero h = absurd (omega arith)
+line-tail (c ∷ cs) (suc n) h = let e : suc n - 1 ≡ n = omega arith in rw e
+
+module _ (text room : List ℕ) (n : ℕ) (h : n ≤ length text) where
+  pub short-line : n < 11 → Forms (take n text) false room
+  short-line k = let e = length-take-le n text h in short-unformed (take n text) room (omega arith)
+
+  pub long-line : 521 < n → Forms (take n text) false room
+  long-line k = let e = length-take-le n text h in long-unformed (take n text) room (omega arith)
+
+  pub colon-line : 11 ≤ n → (getD text 0 0 ≡ 0x3A → ⊥) → Forms (take n text) false room
+  colon-line k e = colon-unformed (take n text) room (rw (getD-take n text 0 0 (omega arith)) e)
+
+  pub pairs-line : 11 ≤ n → {r : Bool} → Decodes (take (n - 1) (take (length text - 1) (drop 1 text))) r room → r ≡ false
+      → Forms (take n text) false room
+  pairs-line k d e = pairs-unformed (take n text) room (rw (tail-whole, line-tail text n (omega arith), e) at d)
+
+  pub formed-line : 11 ≤ n → getD text 0 0 ≡ 0x3A → {r : Bool} → Decodes (take (n - 1) (take (length text - 1) (drop 1 text))) r room
+      → r ≡ true → Forms (take n text) (eqb n (11 + 2 * getD room 0 0)) room
+  formed-line k e d t =
+      let m : length (take n text) ≡ n = length-take-le n text h in
+      let p : getD (take n text) 0 0 ≡ 0x3A = rw (getD-take n text 0 0 (omega arith)) e in
+      let q : Decodes (drop 1 (take n text)) true room = rw (tail-whole, line-tail text n (omega arith), t) at d in
+      rw m at (formed (take n text) room (omega arith) p q)
 
 -- A well-formed line has its count of data and five bytes more: half as many as characters.
 formed-count : (line : List ℕ) → wellFormed line ≡ true
@@ -135,25 +153,51 @@ formed-count line h =
     let m : length (bytesOf line) ≡ length line / 2 = bytes-half line (omega arith) (t .0) in
     (m, omega arith)
 
--- So they fit the room that holds them.
-pub room-fits : (line room : List ℕ) → Forms line true room → length line / 2 ≤ length room
-room-fits line room f =
-    let e : length (take (length line / 2) room) ≡ length line / 2 =
-    ap length (f .bytes refl) ∙ formed-count line (sym (f .said)) .0 in
-    omega (arith, simp length-take at e)
+-- So they are at most as many as those of the longest record.
+formed-most : (line : List ℕ) → wellFormed line ≡ true → length line / 2 ≤ 260
+unfolding wellFormed bytesOf
+formed-most line h =
+    let n = formed-count line h in
+    let sized : Bool = eqb (length line) (11 + 2 * countOf (bytesOf line)) in
+    let q = both-split (eqb (getD line 0 0) 0x3A) (both (paired (drop 1 line)) sized) h in
+    let k = count-fits (drop 1 line) (both-split (paired (drop 1 line)) sized (q .1) .0) in
+    omega arith
 
-pub room-count : (line room : List ℕ) → Forms line true room
-    → length (take (length line / 2) room) ≡ 5 + getD (take (length line / 2) room) 0 0
-room-count line room f = rw (f .bytes refl) (formed-count line (sym (f .said)) .1)
+-- The room that has the bytes of a line, the first characters of a text: it has room for eight more; and after the sum of the
+-- bytes it has them still.
+module _ (text room : List ℕ) (n : ℕ) (h : n ≤ length text) (f : Forms (take n text) true room) where
+  line-length : length (take n text) ≡ n
+  line-length = length-take-le n text h
 
--- A line that is not well formed, and one that says what its bytes do.
+  pub room-fits : n / 2 ≤ 260
+  room-fits = rw line-length at (formed-most (take n text) (sym (f .said)))
+
+  line-bytes : take (n / 2) room ≡ bytesOf (take n text)
+  line-bytes = rw line-length at (f .bytes refl)
+
+  pub room-count : (room′ : List ℕ) (r : Bool) → SumsUp room (n / 2) r room′
+      → length (take (n / 2) room′) ≡ 5 + getD (take (n / 2) room′) 0 0
+  room-count room′ r u = rw (u .bytes, line-bytes) (formed-count (take n text) (sym (f .said)) .1)
+
+  pub room-sum : (room′ : List ℕ) {r : Bool} → SumsUp room (n / 2) r room′ → r ≡ true → sumsToZero (take (n / 2) room′) ≡ true
+  room-sum room′ u t = rw (u .bytes) (sym (u .said) ∙ t)
+
+  -- A line of a wrong sum, and one that says what its bytes do.
+  pub hear-unsound : (room′ cells : List ℕ) {r : Bool} → SumsUp room (n / 2) r room′ → r ≡ false
+      → Hears (take n text) cells (Faulty 13) cells
+  unfolding saysOf recordSays
+  hear-unsound room′ cells u t =
+      let s : sumsToZero (bytesOf (take n text)) ≡ false = rw line-bytes at (sym (u .said) ∙ t) in
+      record { said = rw (sym (f .said), s); kept = refl }
+
+  pub hear-formed : (room′ cells cells′ : List ℕ) (r : Says) {b : Bool} → SumsUp room (n / 2) b room′
+      → Judges (take (n / 2) room′) cells r cells′ → Hears (take n text) cells r cells′
+  unfolding saysOf
+  hear-formed room′ cells cells′ r u j =
+      let k : Judges (bytesOf (take n text)) cells r cells′ = rw (u .bytes, line-bytes) at j in
+      record { said = rw (sym (f .said)) (k .said); kept = k .kept }
+
+-- A line that is not well formed.
 pub hear-unformed : (line room cells : List ℕ) → Forms line false room → Hears line cells (Faulty 12) cells
 unfolding saysOf recordSays
 hear-unformed line room cells f = record { said = rw (sym (f .said)); kept = refl }
-
-pub hear-formed : (line room cells cells′ : List ℕ) (r : Says) → Forms line true room
-    → Judges (take (length line / 2) room) cells r cells′ → Hears line cells r cells′
-unfolding saysOf
-hear-formed line room cells cells′ r f j =
-    let k : Judges (bytesOf line) cells r cells′ = rw (f .bytes refl) at j in
-    record { said = rw (sym (f .said)) (k .said); kept = k .kept }

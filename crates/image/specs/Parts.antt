@@ -22,26 +22,26 @@ pub record Forms (line : List ℕ) (r : Bool) (room′ : List ℕ) : Type 0 wher
   pub said : r ≡ wellFormed line
   pub bytes : r ≡ true → take (length line / 2) room′ ≡ bytesOf line
 
--- The cells after a line: only data that are given change them.
-abbrev pub cellsBy : Heard → List ℕ → List ℕ → List ℕ
-cellsBy gives cells given = given
-cellsBy ends cells given = cells
-cellsBy (faulty k) cells given = cells
+-- The cells after a line: only data that are given change them. After a fault they are of no more use, and nothing is said of them.
+abbrev pub cellsBy : Heard → List ℕ → List ℕ → List ℕ → List ℕ
+cellsBy gives cells given cells′ = given
+cellsBy ends cells given cells′ = cells
+cellsBy (faulty k) cells given cells′ = cells′
 
 -- Data at an address: refusals 15 and 16, or the cells with the data given.
 pub record Places (address : ℕ) (bs cells : List ℕ) (r : Says) (cells′ : List ℕ) : Type 0 where
   pub said : saysMeant r ≡ saysBy true true true (fitsIn (length cells) address (length bs)) (freshOf (drop address cells) bs) false
-  pub kept : cells′ ≡ cellsBy (saysMeant r) cells (take address cells ++ giveOf (drop address cells) bs)
+  pub kept : cells′ ≡ cellsBy (saysMeant r) cells (take address cells ++ giveOf (drop address cells) bs) cells′
 
--- The bytes of a well-formed line: what they say, and the cells after them.
+-- The bytes of a well-formed line whose checksum is right: what they say, and the cells after them.
 pub record Judges (bs cells : List ℕ) (r : Says) (cells′ : List ℕ) : Type 0 where
   pub said : saysMeant r ≡ recordSays cells true bs
-  pub kept : cells′ ≡ cellsBy (saysMeant r) cells (givenOf cells bs)
+  pub kept : cells′ ≡ cellsBy (saysMeant r) cells (givenOf cells bs) cells′
 
 -- A line: what it says, and the cells after it.
 pub record Hears (line cells : List ℕ) (r : Says) (cells′ : List ℕ) : Type 0 where
   pub said : saysMeant r ≡ saysOf cells line
-  pub kept : cells′ ≡ cellsBy (saysMeant r) cells (givenOf cells (bytesOf line))
+  pub kept : cells′ ≡ cellsBy (saysMeant r) cells (givenOf cells (bytesOf line)) cells′
 
 -- The lines of a text over cells: the reply, and if it is acceptance, the cells that settle to the array.
 pub record ReadsLines (text cells : List ℕ) (r : Reply) (cells′ : List ℕ) : Type 0 where

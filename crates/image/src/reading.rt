@@ -18,9 +18,10 @@ pub const MOST_TEXT: usize = 65_536;
 // Room for the cells of the largest array.
 const CELLS: usize = 4096;
 
-// Reads the lines into the cells, up to the end record or the first fault.
-fn read_lines(text: &[u8], cells: &mut [u16]) -> Reply
+// Reads the lines into the cells, up to the end record or the first fault. Room for a line's bytes is lent.
+fn read_lines(text: &[u8], room: &mut [u8], cells: &mut [u16]) -> Reply
     requires { ⌜ length (now text) ≤ 65536 ⌝ }
+    requires { ⌜ 268 ≤ length (now room) ⌝ }
     ensures { λ r. ⌜ ReadsLines (now (text .entry)) (now (cells .entry)) r (now (cells .exit)) ⌝ }
 {
     let mut at = 0;
@@ -29,7 +30,7 @@ fn read_lines(text: &[u8], cells: &mut [u16]) -> Reply
         let Line::At(trimmed, feed) = line else {
             return Reply::Refused(17, text.len());
         };
-        let says = records::hear(&text[at..trimmed], cells);
+        let says = records::hear(&text[at..], trimmed - at, room, cells);
         let next = feed + 1;
         match says {
             Says::Gives => {
@@ -54,7 +55,8 @@ fn read_into(text: &[u8], cells: &mut [u16], array: &mut [u8]) -> Reply
     requires { ⌜ length (now array) ≡ length (now cells) ⌝ }
     ensures { λ r. ⌜ ReadsInto (now (text .entry)) (now (cells .entry)) (now (array .entry)) r (now (array .exit)) ⌝ }
 {
-    let reply = read_lines(text, cells);
+    let mut room = [0u8; records::ROOM];
+    let reply = read_lines(text, &mut room, cells);
     let Reply::Accepted(_) = reply else {
         return reply;
     };

@@ -5,8 +5,10 @@ use hexfile::pairs;
 use hexfile::sums;
 ghost use mathlib.Core.Path.{_≡_};
 ghost use Prim.Native.Nat.{_+_, _*_, _≤_, _<_};
+ghost use mathlib.Core.Bool.{true};
 ghost use lib.Dec.{eqb};
-ghost use lib.ListN.{length, getD};
+ghost use lib.ListN.{length, getD, take};
+ghost use Rattle.hexfile.specs.Pairs.{sumsToZero};
 ghost use Rattle.image.specs.Form.{charactersIn, typeBy};
 ghost use Rattle.image.specs.Parts.{Forms, Places, Judges, Hears};
 
@@ -17,8 +19,8 @@ pub enum Says {
     Faulty(u8),
 }
 
-// Bytes of the longest record: count, address, type, 255 bytes of data, checksum.
-const MOST_BYTES: usize = 260;
+// Room for the bytes of a line: the longest record has 260 (count, address, type, 255 bytes of data, checksum), and eight are scratch.
+pub const ROOM: usize = 268;
 
 // Characters of a record that gives no data, and of the longest.
 const LEAST_LENGTH: usize = 11;
@@ -53,22 +55,23 @@ fn is_typed(kind: u8, count: u8, address: usize) -> bool
     false
 }
 
-// Puts the bytes of a line at the start of `room`, and answers whether it is well formed.
-fn form(line: &[u8], room: &mut [u8]) -> bool
-    requires { ⌜ 260 ≤ length (now room) ⌝ }
-    ensures { λ r. ⌜ Forms (now (line .entry)) r (now (room .exit)) ⌝ }
+// Puts the bytes of a line, the first `n` characters of a text, at the start of `room`, and answers whether it is well formed.
+fn form(text: &[u8], n: usize, room: &mut [u8]) -> bool
+    requires { ⌜ n ≤ length (now text) ⌝ }
+    requires { ⌜ 268 ≤ length (now room) ⌝ }
+    ensures { λ r. ⌜ Forms (take n (now (text .entry))) r (now (room .exit)) ⌝ }
 {
-    if line.len() < LEAST_LENGTH {
+    if n < LEAST_LENGTH {
         return false;
     }
-    if line.len() > MOST_LENGTH {
+    if n > MOST_LENGTH {
         return false;
     }
-    if line[0] != forms::COLON {
+    if text[0] != forms::COLON {
         return false;
     }
-    if pairs::decode(&line[1..], room) {
-        return line.len() == length_for(room[0]);
+    if pairs::decode(&text[1..], n - 1, room) {
+        return n == length_for(room[0]);
     }
     false
 }
@@ -86,21 +89,18 @@ fn place(address: usize, bytes: &[u8], cells: &mut [u16]) -> Says
     if bytes.len() > cells.len() - address {
         return Says::Faulty(15);
     }
-    if cells::fresh(&cells[address..], bytes) {
-        cells::give(&mut cells[address..], bytes);
+    if cells::give(&mut cells[address..], bytes) {
         return Says::Gives;
     }
     Says::Faulty(16)
 }
 
-// What the bytes of a well-formed line say to the cells; data that may be given are given.
+// What the bytes of a well-formed line with a right checksum say to the cells; data that may be given are given.
 fn judge(bytes: &[u8], cells: &mut [u16]) -> Says
     requires { ⌜ length (now bytes) ≡ 5 + getD (now bytes) 0 0 ⌝ }
+    requires { ⌜ sumsToZero (now bytes) ≡ true ⌝ }
     ensures { λ r. ⌜ Judges (now (bytes .entry)) (now (cells .entry)) r (now (cells .exit)) ⌝ }
 {
-    if sums::sum(0, bytes) != 0 {
-        return Says::Faulty(13);
-    }
     let count = bytes[0];
     let address = join(bytes[1], bytes[2]);
     let kind = bytes[3];
@@ -114,22 +114,18 @@ fn judge(bytes: &[u8], cells: &mut [u16]) -> Says
     Says::Faulty(14)
 }
 
-// The same, with room for the line's bytes lent.
-fn hear_with(line: &[u8], room: &mut [u8], cells: &mut [u16]) -> Says
-    requires { ⌜ 260 ≤ length (now room) ⌝ }
-    ensures { λ r. ⌜ Hears (now (line .entry)) (now (cells .entry)) r (now (cells .exit)) ⌝ }
+// What a line, the first `n` characters of a text, says to the cells; data that may be given are given. Room for its bytes is lent.
+pub fn hear(text: &[u8], n: usize, room: &mut [u8], cells: &mut [u16]) -> Says
+    requires { ⌜ n ≤ length (now text) ⌝ }
+    requires { ⌜ 268 ≤ length (now room) ⌝ }
+    ensures { λ r. ⌜ Hears (take n (now (text .entry))) (now (cells .entry)) r (now (cells .exit)) ⌝ }
 {
-    if form(line, room) {
-        let n = line.len() / 2;
-        return judge(&room[..n], cells);
+    if form(text, n, room) {
+        let count = n / 2;
+        if sums::sums_to_zero(room, count) {
+            return judge(&room[..count], cells);
+        }
+        return Says::Faulty(13);
     }
     Says::Faulty(12)
-}
-
-// What a line says to the cells; data that may be given are given.
-pub fn hear(line: &[u8], cells: &mut [u16]) -> Says
-    ensures { λ r. ⌜ Hears (now (line .entry)) (now (cells .entry)) r (now (cells .exit)) ⌝ }
-{
-    let mut room = [0u8; MOST_BYTES];
-    hear_with(line, &mut room, cells)
 }

@@ -1,103 +1,145 @@
--- `hexfile::pairs::decode` meets its contract: the bytes stored so far, and those that are left, are the bytes of the whole.
+-- `hexfile::pairs::decode` meets its contract: the characters so far are digits, and the room has their bytes.
 use Prim.Native.Nat.{_+_, _*_, _-_, _≤_}
-use mathlib.Core.List.{_++_}
-use mathlib.Core.Path.{_≡_, refl, _∙_}
+use mathlib.Core.Path.{_≡_, refl, sym, _∙_}
 use native.Mathlib.Omega.{arith}
 use borrow.Author.Needs.{needs}
-use borrow.Author.Tests.{lt-ltb, le-ltb}
-use lib.ListN.{length, take, drop, length-set}
-use Rattle.hexfile.specs.Pairs.{paired, pairsOf}
-use Rattle.hexfile.proofs.PairLaws.{decode-turn, undecoded, decoded}
+use lib.ListN.{length, take, drop, length-take, length-drop}
+use lib.Seq.{length-take-le}
+use borrow.Rule.Slice.PartMut.{same-len-mid}
+use Rattle.hexfile.proofs.WindowLaws.{Decoded, tail-whole, windows-fit, decode-turn, decode-odd, decode-fails, decode-ends}
 use Rattle.hexfile.proofs.pairs.decode.Statement.{statement}
 use Rattle.hexfile.proofs.pairs.decode.Tie as tie
 
 abbrev Inv-loop : tie.InvT-loop
-Inv-loop text room₀ from₀ i₀ room from i =
-    (from ≤ length text)
-    × (from ≡ 2 * i)
-    × (length room ≡ length room₀)
-    × (paired text ≡ paired (drop from text))
-    × (take i room ++ pairsOf (drop from text) ≡ pairsOf text)
+Inv-loop text n room₀ from₀ at₀ room from at =
+    (from ≤ n) × (from ≡ 2 * at) × (length room ≡ length room₀) × Decoded text room from at
 
 abbrev μ-loop : tie.MeasureT-loop
-μ-loop text room₀ from₀ i₀ room from i = length text - from
+μ-loop text n room₀ from₀ at₀ room from at = n - from
+
+returns : tie.Need-returns Inv-loop μ-loop
+returns c = decode-odd _ _ _ (c .before .before .before .pre .0) (c .if1 .taken)
 
 loop-holds : tie.Need-loop-holds Inv-loop μ-loop
-loop-holds c = (search needs, search needs, refl, refl, refl)
+loop-holds c = (search needs, refl, refl, record { half = refl; digits = refl; bytes = refl })
 
 sub-loop : tie.Need-sub-loop Inv-loop μ-loop
 sub-loop c = search needs
 
-shared-slice-read-digit : tie.Need-shared-slice-read-digit Inv-loop μ-loop
-shared-slice-read-digit c = search needs
+add-to : tie.Need-add-to Inv-loop μ-loop
+add-to c = search needs
 
-digit-requires : tie.Need-digit-requires Inv-loop μ-loop
-digit-requires c κs = search needs
+add-end : tie.Need-add-end Inv-loop μ-loop
+add-end c = search needs
 
-same-length : tie.Need-same-length Inv-loop μ-loop
-same-length c = c .before .before .before .before .loop .inv .2
+sub-all-digits : tie.Need-sub-all-digits Inv-loop μ-loop
+sub-all-digits c = search needs
 
-returns : tie.Need-returns Inv-loop μ-loop
-returns c =
-    let b = c .before .before .before .before .loop in
-    undecoded _ _ (b .from) (omega arith) (b .inv .3) (c .before .digit .ensures) refl (rw (le-ltb _ _ (c .if1 .taken)))
+part-all-digits-start : tie.Need-part-all-digits-start Inv-loop μ-loop
+part-all-digits-start c = search needs
 
-add-digit : tie.Need-add-digit Inv-loop μ-loop
-add-digit c = search needs
+part-all-digits-end : tie.Need-part-all-digits-end Inv-loop μ-loop
+part-all-digits-end c = search needs
 
-shared-slice-read-digit-2 : tie.Need-shared-slice-read-digit-2 Inv-loop μ-loop
-shared-slice-read-digit-2 c = search needs
+all-digits-requires : tie.Need-all-digits-requires Inv-loop μ-loop
+all-digits-requires c κs = search needs
 
-digit-requires-2 : tie.Need-digit-requires-2 Inv-loop μ-loop
-digit-requires-2 c κs = search needs
+sub-join : tie.Need-sub-join Inv-loop μ-loop
+sub-join c = search needs
 
-same-length-2 : tie.Need-same-length-2 Inv-loop μ-loop
-same-length-2 c = c .before .before .before .before .before .before .before .loop .inv .2
+part-join-start : tie.Need-part-join-start Inv-loop μ-loop
+part-join-start c = search needs
 
-returns-2 : tie.Need-returns-2 Inv-loop μ-loop
-returns-2 c =
-    let d = c .before .before .before in
-    let b = d .before .before .before .before .loop in
-    undecoded _ _ (b .from) (omega arith) (b .inv .3) (d .before .digit .ensures) (c .before .digit2 .ensures)
-    (rw (lt-ltb _ _ (d .if1 .left), le-ltb _ _ (c .if2 .taken)))
+part-join-end : tie.Need-part-join-end Inv-loop μ-loop
+part-join-end c = search needs
 
-mul-room : tie.Need-mul-room Inv-loop μ-loop
-mul-room c = search needs
+sub-join-2 : tie.Need-sub-join-2 Inv-loop μ-loop
+sub-join-2 c = search needs
 
-add-room : tie.Need-add-room Inv-loop μ-loop
-add-room c = search needs
+part-join-start-2 : tie.Need-part-join-start-2 Inv-loop μ-loop
+part-join-start-2 c = search needs
 
-slice-write-room : tie.Need-slice-write-room Inv-loop μ-loop
-slice-write-room c = search needs
+part-join-end-2 : tie.Need-part-join-end-2 Inv-loop μ-loop
+part-join-end-2 c = search needs
 
-add-from : tie.Need-add-from Inv-loop μ-loop
-add-from c = search needs
-
-add-i : tie.Need-add-i Inv-loop μ-loop
-add-i c = search needs
+join-requires : tie.Need-join-requires Inv-loop μ-loop
+join-requires c κs =
+    let b = c .before .before .before .before .before .before .loop in
+    windows-fit _ (b .room) (b .from) (b .at) (omega arith) (omega arith)
 
 loop-less : tie.Need-loop-less Inv-loop μ-loop
 loop-less c = search needs
 
 loop-again : tie.Need-loop-again Inv-loop μ-loop
 loop-again c =
-    let d = c .before .before .before in
-    let b = d .before .before .before .before .loop in
-    let text = c .before .before .before .before .before .before .before .before .before .before .args .text .now in
-    let p : b .from + 2 ≤ length text = omega arith in
-    let t =
-    decode-turn text (b .room) (b .from) (b .i) p (omega arith)
-    (d .before .digit .ensures) (c .before .digit2 .ensures) (d .if1 .left) (c .if2 .left)
-    in
-    (p, omega arith, simp length-set (b .inv .2), b .inv .3 ∙ t .0, t .1 ∙ b .inv .4)
+    let b = c .before .before .before .before .before .before .before .before .before .loop in
+    let all = c .before .before .before .before .before .before .all-digits in (
+      omega arith,
+      omega arith,
+      same-len-mid (b .at) (b .at + 8 - b .at) (b .room) (c .before .before .join .last .1 .0) (c .before .before .join .kept .1 .0) ∙ b .inv .2,
+      decode-turn _ _ _ (b .from) (b .at) (omega arith) (omega arith) (b .inv .3) (all .ensures) (c .before .before .before .before .before .if2 .taken) (c .before .before .join .ensures),
+    )
 
-same-length-3 : tie.Need-same-length-3 Inv-loop μ-loop
-same-length-3 c = c .before .loop .inv .2
+same-length : tie.Need-same-length Inv-loop μ-loop
+same-length c = c .before .before .before .before .loop .inv .2
+
+returns-2 : tie.Need-returns-2 Inv-loop μ-loop
+returns-2 c =
+    let b = c .before .before .before .before .loop in
+    let pre = c .before .before .before .before .before .before .before .before .pre in
+    decode-fails _ _ _ (b .from) (pre .0) (c .before .before .before .before .before .if1 .left) (omega arith) (c .before .all-digits .ensures) (c .if2 .left)
+
+sub-join-first : tie.Need-sub-join-first Inv-loop μ-loop
+sub-join-first c = search needs
+
+part-join-first-start : tie.Need-part-join-first-start Inv-loop μ-loop
+part-join-first-start c = search needs
+
+part-join-first-end : tie.Need-part-join-first-end Inv-loop μ-loop
+part-join-first-end c = search needs
+
+sub-join-first-2 : tie.Need-sub-join-first-2 Inv-loop μ-loop
+sub-join-first-2 c = search needs
+
+sub-join-first-3 : tie.Need-sub-join-first-3 Inv-loop μ-loop
+sub-join-first-3 c = search needs
+
+part-join-first-start-2 : tie.Need-part-join-first-start-2 Inv-loop μ-loop
+part-join-first-start-2 c = search needs
+
+part-join-first-end-2 : tie.Need-part-join-first-end-2 Inv-loop μ-loop
+part-join-first-end-2 c = search needs
+
+join-first-requires : tie.Need-join-first-requires Inv-loop μ-loop
+join-first-requires c κs =
+    let b = c .before .before .before .loop in
+    let text = c .before .before .before .before .before .before .before .args .text .now in (
+      rw (tail-whole (b .from) text, length-drop (b .from) text) (omega arith),
+      (omega arith, rw (tail-whole (b .at) (b .room), length-drop (b .at) (b .room)) (omega arith)),
+    )
+
+slice-aggregate-ends-in-digits : tie.Need-slice-aggregate-ends-in-digits Inv-loop μ-loop
+slice-aggregate-ends-in-digits c = sym (length-take-le _ _ (c .before .before .before .before .before .before .before .before .before .before .before .pre .0))
+
+ends-in-digits-requires : tie.Need-ends-in-digits-requires Inv-loop μ-loop
+ends-in-digits-requires c κs = search needs
+
+same-length-2 : tie.Need-same-length-2 Inv-loop μ-loop
+same-length-2 c =
+    let b = c .before .before .before .before .before .before .before .before .loop in
+    let first = c .before .before .before .before .join-first in
+    same-len-mid (b .at) (length (b .room) - b .at) (b .room) (first .last .1 .1 .0) (first .kept .1 .1 .0) ∙ b .inv .2
 
 returns-3 : tie.Need-returns-3 Inv-loop μ-loop
 returns-3 c =
-    let b = c .before .loop in
-    decoded _ (b .room) (b .from) (b .i) (b .inv .0) (omega arith) (omega arith) (b .inv .3) (b .inv .4)
+    let b = c .before .before .before .before .before .before .before .before .loop in
+    let start = c .before .before .before .before .before .before .before .before .before .before .before .before in
+    let first = c .before .before .before .before .join-first in
+    let k : length (first .last .1 .1 .0) ≡ length (b .room) - b .at =
+    rw (tail-whole (b .at) (b .room), length-drop (b .at) (b .room)) at (first .kept .1 .1 .0) in
+    decode-ends (start .args .text .now) (b .room) (first .last .1 .1 .0) _ (start .args .n) (b .from) (b .at) (start .pre .0)
+    (c .before .before .before .before .before .before .before .before .before .if1 .left)
+    (b .inv .0) (omega arith) (omega arith) (omega arith) (b .inv .3) (first .ensures) (c .ends-in-digits .ensures)
 
 pub decode-spec : {M : Type 1} → statement M
 decode-spec =
@@ -105,23 +147,35 @@ decode-spec =
     (tie.spec
     Inv-loop
     μ-loop
+    returns
     loop-holds
     sub-loop
-    shared-slice-read-digit
-    digit-requires
-    same-length
-    returns
-    add-digit
-    shared-slice-read-digit-2
-    digit-requires-2
-    same-length-2
-    returns-2
-    mul-room
-    add-room
-    slice-write-room
-    add-from
-    add-i
+    add-to
+    add-end
+    sub-all-digits
+    part-all-digits-start
+    part-all-digits-end
+    all-digits-requires
+    sub-join
+    part-join-start
+    part-join-end
+    sub-join-2
+    part-join-start-2
+    part-join-end-2
+    join-requires
     loop-less
     loop-again
-    same-length-3
+    same-length
+    returns-2
+    sub-join-first
+    part-join-first-start
+    part-join-first-end
+    sub-join-first-2
+    sub-join-first-3
+    part-join-first-start-2
+    part-join-first-end-2
+    join-first-requires
+    slice-aggregate-ends-in-digits
+    ends-in-digits-requires
+    same-length-2
     returns-3)

@@ -4,6 +4,9 @@ use borrow.Author.Needs.{needs}
 use Rattle.image.proofs.reading.read_into.Statement.{statement}
 use Rattle.image.proofs.reading.read_into.Tie as tie
 
+slice-aggregate-read-lines : tie.Need-slice-aggregate-read-lines
+slice-aggregate-read-lines c = search needs
+
 read-lines-requires : tie.Need-read-lines-requires
 read-lines-requires c κs = search needs
 
@@ -17,7 +20,7 @@ same-length : tie.Need-same-length
 same-length c = search needs
 
 returns : tie.Need-returns
-returns c = into-refused _ _ _ _ _ _ _ (c .before .before .before .before .read-lines .ensures) (c .enum-told2 .given .1)
+returns c = into-refused _ _ _ _ _ _ _ (c .before .before .before .before .before .read-lines .ensures) (c .enum-told2 .given .1)
 
 settle-requires : tie.Need-settle-requires
 settle-requires c κs = search needs
@@ -30,12 +33,13 @@ same-length-3 c = search needs
 
 returns-2 : tie.Need-returns-2
 returns-2 c =
-    into-accepted _ _ _ _ _ _ _ (c .before .before .before .before .before .before .before .before .before .read-lines .ensures) (c .before .before .before .before .before .enum-told .given .1) (c .before .before .settle .ensures)
+    into-accepted _ _ _ _ _ _ _ (c .before .before .before .before .before .before .before .before .before .before .read-lines .ensures) (c .before .before .before .before .before .enum-told .given .1) (c .before .before .settle .ensures)
 
 pub read-into-spec : {M : Type 1} → statement M
 read-into-spec =
     tie.close
     (tie.spec
+    slice-aggregate-read-lines
     read-lines-requires
     enum-told
     enum-told-2

@@ -1,22 +1,21 @@
 -- `image::records::form` meets its contract.
 use native.Mathlib.Omega.{arith}
-use Rattle.image.proofs.Placed.{tail-whole}
-use Rattle.image.proofs.Heard.{short-unformed, long-unformed, colon-unformed, pairs-unformed, formed}
+use Rattle.image.proofs.Heard.{short-line, long-line, colon-line, pairs-line, formed-line}
 use borrow.Author.Needs.{needs}
 use Rattle.image.proofs.records.form.Statement.{statement}
 use Rattle.image.proofs.records.form.Tie as tie
 
 returns : tie.Need-returns
-returns c = short-unformed _ _ (c .if1 .taken)
+returns c = short-line _ _ _ (c .before .before .before .pre .0) (c .if1 .taken)
 
 returns-2 : tie.Need-returns-2
-returns-2 c = long-unformed _ _ (c .if2 .taken)
+returns-2 c = long-line _ _ _ (c .before .before .before .before .pre .0) (c .if2 .taken)
 
 shared-slice-read-if3 : tie.Need-shared-slice-read-if3
 shared-slice-read-if3 c = search needs
 
 returns-3 : tie.Need-returns-3
-returns-3 c = colon-unformed _ _ (c .if3 .taken)
+returns-3 c = colon-line _ _ _ (c .before .before .before .before .before .before .pre .0) (c .before .before .before .if1 .left) (c .if3 .taken)
 
 sub-decode : tie.Need-sub-decode
 sub-decode c = search needs
@@ -26,6 +25,9 @@ part-decode-start c = search needs
 
 part-decode-end : tie.Need-part-decode-end
 part-decode-end c = search needs
+
+sub-decode-2 : tie.Need-sub-decode-2
+sub-decode-2 c = search needs
 
 decode-requires : tie.Need-decode-requires
 decode-requires c κs = search needs
@@ -41,17 +43,17 @@ same-length c = search needs
 
 returns-4 : tie.Need-returns-4
 returns-4 c =
-    let line = c .before .before .before .before .before .before .before .before .before .before .before .before .before .before .args .line .now in
-    let d = rw (tail-whole 1 line, c .before .before .if4 .taken) at (c .before .before .before .before .before .decode .ensures) in
-    rw (c .length-for .ensures) (formed line _ (omega arith) (c .before .before .before .before .before .before .before .before .if3 .left) d)
+    let start = c .before .before .before .before .before .before .before .before .before .before .before .before .before .before in
+    rw (c .length-for .ensures)
+    (formed-line (start .args .text .now) _ _ (start .pre .0) (c .before .before .before .before .before .before .before .before .before .before .before .if1 .left) (c .before .before .before .before .before .before .before .before .if3 .left) (c .before .before .before .before .before .decode .ensures) (c .before .before .if4 .taken))
 
 same-length-2 : tie.Need-same-length-2
 same-length-2 c = search needs
 
 returns-5 : tie.Need-returns-5
 returns-5 c =
-    let line = c .before .before .before .before .before .before .before .before .before .before .before .before .args .line .now in
-    pairs-unformed line _ (rw (tail-whole 1 line, c .if4 .left) at (c .before .before .before .decode .ensures))
+    let start = c .before .before .before .before .before .before .before .before .before .before .before .before in
+    pairs-line (start .args .text .now) _ _ (start .pre .0) (c .before .before .before .before .before .before .before .before .before .if1 .left) (c .before .before .before .decode .ensures) (c .if4 .left)
 
 pub form-spec : {M : Type 1} → statement M
 form-spec =
@@ -64,6 +66,7 @@ form-spec =
     sub-decode
     part-decode-start
     part-decode-end
+    sub-decode-2
     decode-requires
     slice-read-length-for
     length-for-requires

@@ -1,16 +1,10 @@
 -- `image::records::judge` meets its contract.
 use mathlib.Core.Path.{sym, _∙_}
 use Rattle.image.specs.Form.{typed}
-use Rattle.image.proofs.Heard.{judge-unsound, judge-untyped, judge-end, judge-placed}
+use Rattle.image.proofs.Heard.{judge-untyped, judge-end, judge-placed}
 use borrow.Author.Needs.{needs}
 use Rattle.image.proofs.records.judge.Statement.{statement}
 use Rattle.image.proofs.records.judge.Tie as tie
-
-sum-requires : tie.Need-sum-requires
-sum-requires c κs = search needs
-
-returns : tie.Need-returns
-returns c = judge-unsound _ _ _ (c .before .sum .ensures) (c .if1 .taken)
 
 shared-slice-read-count : tie.Need-shared-slice-read-count
 shared-slice-read-count c = search needs
@@ -30,10 +24,12 @@ shared-slice-read-kind c = search needs
 is-typed-requires : tie.Need-is-typed-requires
 is-typed-requires c κs = search needs
 
-returns-2 : tie.Need-returns-2
+returns : tie.Need-returns
 unfolding typed
-returns-2 c =
-    judge-end _ _ _ (c .before .before .before .before .before .before .before .before .before .sum .ensures) (c .before .before .before .before .before .before .before .before .if1 .left) (rw (← (c .before .before .before .before .join .ensures)) (sym (c .before .before .is-typed .ensures) ∙ c .before .if2 .taken)) (c .if3 .taken)
+returns c =
+    judge-end _ _ (c .before .before .before .before .before .before .before .before .before .before .pre .1)
+    (rw (← (c .before .before .before .before .join .ensures)) (sym (c .before .before .is-typed .ensures) ∙ c .before .if1 .taken))
+    (c .if2 .taken)
 
 sub-last : tie.Need-sub-last
 sub-last c = search needs
@@ -53,34 +49,37 @@ place-requires c κs = search needs
 same-length : tie.Need-same-length
 same-length c = search needs
 
+returns-2 : tie.Need-returns-2
+unfolding typed
+returns-2 c =
+    let pre = c .before .before .before .before .before .before .before .before .before .before .before .before .before .before .before .pre in
+    judge-placed _ _ _ _ (pre .1)
+    (rw (← (c .before .before .before .before .before .before .before .before .before .join .ensures)) (sym (c .before .before .before .before .before .before .before .is-typed .ensures) ∙ c .before .before .before .before .before .before .if1 .taken))
+    (c .before .before .before .before .before .if2 .left) (pre .0)
+    (rw (c .before .before .before .before .before .before .before .before .before .join .ensures) at (c .before .before .place .ensures))
+
 returns-3 : tie.Need-returns-3
 unfolding typed
 returns-3 c =
-    judge-placed _ _ _ _ _ (c .before .before .before .before .before .before .before .before .before .before .before .before .before .before .sum .ensures) (c .before .before .before .before .before .before .before .before .before .before .before .before .before .if1 .left) (rw (← (c .before .before .before .before .before .before .before .before .before .join .ensures)) (sym (c .before .before .before .before .before .before .before .is-typed .ensures) ∙ c .before .before .before .before .before .before .if2 .taken)) (c .before .before .before .before .before .if3 .left) (c .before .before .before .before .before .before .before .before .before .before .before .before .before .before .before .before .before .pre) (rw (c .before .before .before .before .before .before .before .before .before .join .ensures) at (c .before .before .place .ensures))
-
-returns-4 : tie.Need-returns-4
-unfolding typed
-returns-4 c =
-    judge-untyped _ _ _ (c .before .before .before .before .before .before .before .before .sum .ensures) (c .before .before .before .before .before .before .before .if1 .left) (rw (← (c .before .before .before .join .ensures)) (sym (c .before .is-typed .ensures) ∙ c .if2 .left))
+    judge-untyped _ _ (c .before .before .before .before .before .before .before .before .before .pre .1)
+    (rw (← (c .before .before .before .join .ensures)) (sym (c .before .is-typed .ensures) ∙ c .if1 .left))
 
 pub judge-spec : {M : Type 1} → statement M
 judge-spec =
     tie.close
     (tie.spec
-    sum-requires
-    returns
     shared-slice-read-count
     shared-slice-read-join
     shared-slice-read-join-2
     join-requires
     shared-slice-read-kind
     is-typed-requires
-    returns-2
+    returns
     sub-last
     sub-place
     part-place-start
     part-place-end
     place-requires
     same-length
-    returns-3
-    returns-4)
+    returns-2
+    returns-3)

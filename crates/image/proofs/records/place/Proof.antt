@@ -1,12 +1,8 @@
 -- `image::records::place` meets its contract.
-use Prim.Native.Nat.{ℕ, _+_, _≤_}
-use mathlib.Core.Bool.{true, false}
-use mathlib.Core.List.{List}
+use Prim.Native.Nat.{_+_, _≤_}
 use native.Mathlib.Omega.{arith}
 use lib.ListN.{length}
-use Rattle.part.proofs.Laws.{part-back}
-use Rattle.hexfile.specs.Cells.{giveOf}
-use Rattle.image.proofs.Placed.{place-none, place-beyond, place-twice, place-given, fresh-tail}
+use Rattle.image.proofs.Placed.{place-none, place-beyond, place-twice, place-given}
 use borrow.Author.Needs.{needs}
 use Rattle.image.proofs.records.place.Statement.{statement}
 use Rattle.image.proofs.records.place.Tie as tie
@@ -22,21 +18,6 @@ sub-if3 c = search needs
 
 returns-3 : tie.Need-returns-3
 returns-3 c = place-beyond _ _ _ (c .before .before .if1 .left) (omega arith)
-
-mul-fresh : tie.Need-mul-fresh
-mul-fresh c = search needs
-
-sub-fresh : tie.Need-sub-fresh
-sub-fresh c = search needs
-
-part-fresh-start : tie.Need-part-fresh-start
-part-fresh-start c = search needs
-
-part-fresh-end : tie.Need-part-fresh-end
-part-fresh-end c = search needs
-
-fresh-requires : tie.Need-fresh-requires
-fresh-requires c κs = search needs
 
 mul-give : tie.Need-mul-give
 mul-give c = search needs
@@ -58,21 +39,18 @@ same-length c = search needs
 
 returns-4 : tie.Need-returns-4
 returns-4 c =
-    let a = c .before .before .before .before .before .before .before .before .before .before .before .before .before .args in
+    let a = c .before .before .before .before .before .before .before .before .before .before .args in
     let h : a .address + length (a .bytes .now) ≤ length (a .cells .now) = omega arith in
-    place-given _ _ _ _ (c .before .before .before .before .before .before .before .before .before .before .if1 .left) h
-    (fresh-tail (a .address) (a .cells .now) (a .bytes .now) _ true (c .before .before .before .before .before .fresh .ensures) (c .before .before .before .before .if4 .taken))
-    (part-back (λ (cs : List ℕ). giveOf cs (a .bytes .now)) (a .address) (a .cells .now) _ (c .before .before .give .ensures))
+    place-given (a .address) (a .bytes .now) (a .cells .now) _ (c .before .before .before .before .before .before .before .if1 .left) h (c .before .before .before .give .ensures) (c .if4 .taken)
 
 same-length-2 : tie.Need-same-length-2
 same-length-2 c = search needs
 
 returns-5 : tie.Need-returns-5
 returns-5 c =
-    let a = c .before .before .before .before .before .before .before .before .before .args in
+    let a = c .before .before .before .before .before .before .before .before .before .before .args in
     let h : a .address + length (a .bytes .now) ≤ length (a .cells .now) = omega arith in
-    place-twice _ _ _ (c .before .before .before .before .before .before .if1 .left) h
-    (fresh-tail (a .address) (a .cells .now) (a .bytes .now) _ false (c .before .fresh .ensures) (c .if4 .left))
+    place-twice (a .address) (a .bytes .now) (a .cells .now) _ _ (c .before .before .before .before .before .before .before .if1 .left) h (c .before .before .before .give .ensures) (c .if4 .left)
 
 pub place-spec : {M : Type 1} → statement M
 place-spec =
@@ -82,11 +60,6 @@ place-spec =
     returns-2
     sub-if3
     returns-3
-    mul-fresh
-    sub-fresh
-    part-fresh-start
-    part-fresh-end
-    fresh-requires
     mul-give
     sub-give
     part-give-start

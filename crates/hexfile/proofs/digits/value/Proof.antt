@@ -1,0 +1,21 @@
+-- `hexfile::digits::value` meets its contract.
+use native.Mathlib.Omega.{arith}
+use borrow.Author.Needs.{needs}
+use lib.Dec.{ltb}
+use Rattle.hexfile.specs.Parts.{valueOf}
+use Rattle.hexfile.proofs.WindowLaws.{shift-small}
+use Rattle.hexfile.proofs.digits.value.Statement.{statement}
+use Rattle.hexfile.proofs.digits.value.Tie as tie
+
+shift-requires : tie.Need-shift-requires
+shift-requires c κs = search needs
+
+add-result : tie.Need-add-result
+add-result c = omega (arith, c .shift .ensures, shift-small (ltb (c .before .args .character) 0x41))
+
+returns : tie.Need-returns
+unfolding valueOf
+returns c = rw (c .shift .ensures)
+
+pub value-spec : {M : Type 1} → statement M
+value-spec = tie.close (tie.spec shift-requires add-result returns)
