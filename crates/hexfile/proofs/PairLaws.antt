@@ -1,19 +1,17 @@
 -- Laws of the pairs of digits and of the sums that the proofs cite. Assumes nothing.
-use Prim.Native.Nat.{ℕ, zero, suc, _+_, _*_, _/_, _%_, _<_, _≤_}
+use Prim.Native.Nat.{ℕ, suc, _+_, _*_, _/_, _%_, _<_, _≤_}
 use mathlib.Core.Bool.{true, false, true≢false}
-use mathlib.Core.List.{List, [], _∷_, _++_, append-assoc, append-nil}
-use mathlib.Core.Path.{_≡_, refl, sym, _∙_}
+use mathlib.Core.List.{List, [], _∷_}
+use mathlib.Core.Path.{_≡_, refl}
 use native.Mathlib.Omega.{arith}
 use native.Mathlib.Numerals.{add-one}
-use lib.Dec.{ltb, eqb, eqb·suc-suc}
-use lib.ListN.{length, getD, take, drop, set}
-use lib.Seq.{drop-cons, take-suc-set, length-take-le, sets}
-use borrow.Author.Tests.{lt-ltb, ltb-true}
+use lib.ListN.{length, getD, drop, set}
+use lib.Seq.{drop-cons, sets}
+use borrow.Author.Tests.{ltb-true}
 use Rattle.part.specs.Cases.{both}
 use Rattle.part.specs.Numbers.{byteValues}
 use Rattle.hexfile.specs.Digits.{base, digitOf, isDigit, glyphOf}
 use Rattle.hexfile.specs.Pairs.{pairOf, paired, pairsOf, textOf, sumOf}
-use Rattle.hexfile.specs.Promises.{Decodes}
 use Rattle.hexfile.proofs.DigitLaws.{glyph-written, glyph-digit}
 use Rattle.part.proofs.Laws.{both-split}
 

@@ -4,7 +4,6 @@ use mathlib.Core.Bool.{Bool, true, false, _&&_, _||_, true≢false}
 use mathlib.Core.List.{List, [], _∷_, _++_, append-assoc, append-nil}
 use mathlib.Core.Path.{_≡_, refl, ap, sym, _∙_}
 use native.Mathlib.Omega.{arith}
-use native.Mathlib.Numerals.{add-one}
 use lib.Dec.{eqb, ltb}
 use lib.ListN.{length, getD, take, drop, set, length-drop, take-append-drop, drop-of-length-le}
 use lib.Seq.{drop-cons, take-suc-set, take-all, take-add, take-at, drop-at, take-take, take-append-le, length-take-le}

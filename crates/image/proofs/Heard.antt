@@ -1,11 +1,11 @@
 -- Laws of one line: whether it is well formed, and what its bytes say to the cells. Assumes nothing.
-use Prim.Native.Nat.{ℕ, zero, suc, _+_, _*_, _-_, _/_, _%_, _≤_, _<_}
+use Prim.Native.Nat.{ℕ, zero, suc, _+_, _*_, _-_, _/_, _≤_, _<_}
 use mathlib.Core.Bool.{Bool, true, false}
 use mathlib.Core.List.{List, [], _∷_}
 use mathlib.Core.Path.{_≡_, refl, ap, sym, _∙_}
 use native.Mathlib.Omega.{arith}
 use lib.Dec.{eqb}
-use lib.ListN.{length, getD, take, drop, length-drop, length-take}
+use lib.ListN.{length, getD, take, drop, length-drop}
 use lib.Seq.{length-take-le, getD-take, take-nil}
 use borrow.Author.Tests.{eq-eqb, ne-eqb, eqb-true}
 use Rattle.part.specs.Cases.{both}
@@ -15,17 +15,13 @@ use Rattle.hexfile.specs.Promises.{Decodes, SumsUp}
 use Rattle.part.proofs.Laws.{both-split}
 use Rattle.hexfile.proofs.PairLaws.{pair-fits, length-pairsOf}
 use Rattle.hexfile.proofs.CellLaws.{fresh-nil}
+use Rattle.hexfile.proofs.TestLaws.{both-false}
 use Rattle.hexfile.proofs.WindowLaws.{tail-whole}
 use Rattle.image.specs.Form.{bytesOf, countOf, addressOf, typeOf, dataOf, wellFormed, typed, inside}
 use Rattle.image.specs.Reading.{fresh, givenOf, recordSays, saysOf}
 use Rattle.image.specs.Parts.{Forms, Places, Judges, Hears}
 use Rattle.image.specs.declared.records.Says.{Says}
 use Rattle.image.specs.declared.records.Says.the-variants.{Ends, Faulty}
-
--- A conjunction with a test that fails fails.
-both-fails : (p : Bool) → both p false ≡ false
-both-fails true = refl
-both-fails false = refl
 
 -- Bytes of a type that is not taken.
 pub judge-untyped : (bs cells : List ℕ) → sumsToZero bs ≡ true → typed bs ≡ false → Judges bs cells (Faulty 14) cells
@@ -91,7 +87,7 @@ colon-unformed line room h = unformed line room (rw (ne-eqb (getD line 0 0) 0x3A
 pairs-unformed : (line room : List ℕ) → Decodes (drop 1 line) false room → Forms line false room
 unfolding wellFormed
 pairs-unformed line room d =
-    unformed line room (rw (sym (d .said)) (both-fails (eqb (getD line 0 0) 0x3A)))
+    unformed line room (rw (sym (d .said)) (both-false (eqb (getD line 0 0) 0x3A)))
 
 -- The bytes of a line of pairs, and their number.
 bytes-half : (line : List ℕ) → 11 ≤ length line → paired (drop 1 line) ≡ true → length (bytesOf line) ≡ length line / 2

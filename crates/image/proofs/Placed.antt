@@ -4,8 +4,7 @@ use mathlib.Core.Bool.{Bool, true, false}
 use mathlib.Core.List.{List, [], _∷_, _++_}
 use mathlib.Core.Path.{_≡_, refl, sym, _∙_}
 use native.Mathlib.Omega.{arith}
-use lib.ListN.{length, take, drop, take-append-drop, length-drop}
-use lib.Seq.{take-all}
+use lib.ListN.{length, take, drop, take-append-drop}
 use borrow.Author.Tests.{ne-eqb, le-leb, lt-leb}
 use Rattle.part.proofs.Laws.{part-back}
 use Rattle.hexfile.specs.Cells.{freshOf, giveOf}

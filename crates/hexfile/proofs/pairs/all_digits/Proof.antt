@@ -1,10 +1,10 @@
 -- `hexfile::pairs::all_digits` meets its contract: the tests so far, and those that are left, are the tests of the whole.
 use Prim.Native.Nat.{_≤_, _-_}
-use mathlib.Core.Path.{_≡_, refl, sym, _∙_}
+use mathlib.Core.Path.{_≡_, refl, _∙_}
 use native.Mathlib.Omega.{arith}
 use native.Mathlib.Numerals.{add-one}
 use borrow.Author.Needs.{needs}
-use lib.ListN.{length, drop, drop-of-length-le}
+use lib.ListN.{length, drop}
 use Rattle.part.specs.Cases.{both}
 use Rattle.hexfile.specs.Parts.{allDigits}
 use Rattle.hexfile.proofs.WindowLaws.{all-turn, all-done}

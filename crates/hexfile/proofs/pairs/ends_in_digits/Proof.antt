@@ -1,8 +1,6 @@
 -- `hexfile::pairs::ends_in_digits` meets its contract: the parts that are tested cover the last characters.
 use Prim.Native.Nat.{_-_}
-use native.Mathlib.Omega.{arith}
 use borrow.Author.Needs.{needs}
-use lib.ListN.{length}
 use lib.Seq.{length-take-le}
 use mathlib.Core.Path.{sym}
 use Rattle.hexfile.proofs.WindowLaws.{tail-whole, ends-some, ends-few}

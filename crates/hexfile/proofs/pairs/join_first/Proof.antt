@@ -1,9 +1,9 @@
 -- `hexfile::pairs::join_first` meets its contract: values behind those that count change nothing before them.
-use Prim.Native.Nat.{_*_, _≤_}
-use mathlib.Core.Path.{_≡_, sym}
+use Prim.Native.Nat.{_≤_}
+use mathlib.Core.Path.{sym}
 use native.Mathlib.Omega.{arith}
 use borrow.Author.Needs.{needs}
-use lib.ListN.{length, take}
+use lib.ListN.{length}
 use lib.Seq.{length-take-le}
 use Rattle.hexfile.proofs.WindowLaws.{first-few, first-window}
 use Rattle.hexfile.proofs.pairs.join_first.Statement.{statement}

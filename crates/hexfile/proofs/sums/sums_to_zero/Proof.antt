@@ -1,6 +1,6 @@
 -- `hexfile::sums::sums_to_zero` meets its contract: the noughts behind the bytes add nothing.
 use Prim.Native.Nat.{_+_, _-_, _%_, _≤_, _<_}
-use mathlib.Core.Path.{_≡_, refl, sym, _∙_}
+use mathlib.Core.Path.{_≡_, refl}
 use native.Mathlib.Omega.{arith}
 use borrow.Author.Needs.{needs}
 use borrow.Rule.Slice.PartMut.{same-len-mid}

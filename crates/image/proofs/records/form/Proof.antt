@@ -1,5 +1,4 @@
 -- `image::records::form` meets its contract.
-use native.Mathlib.Omega.{arith}
 use Rattle.image.proofs.Heard.{short-line, long-line, colon-line, pairs-line, formed-line}
 use borrow.Author.Needs.{needs}
 use Rattle.image.proofs.records.form.Statement.{statement}
