@@ -3,7 +3,7 @@ use Prim.Native.Nat.{ℕ, zero, suc, _-_}
 use mathlib.Core.List.{List}
 use Rattle.part.specs.declared.state.State.{State}
 use Rattle.twin.specs.declared.replays.Replayed.{Replayed}
-use Rattle.twin.specs.Run.{Part}
+use Rattle.sample.specs.Run.{Part}
 use Rattle.refusals.specs.Refusals.{Verdict, meant, judgedOf}
 use Rattle.twin.specs.Promises.{partAfter, rowAfter}
 

@@ -5,7 +5,7 @@ use mathlib.Core.Bool.{true}
 use mathlib.Core.List.{List, [], _∷_}
 use mathlib.Core.Path.{_≡_, refl}
 use borrow.Author.Tests.{eq-eqb}
-use Rattle.twin.specs.Run.{Part, partStep, runOf, answersOf}
+use Rattle.sample.specs.Run.{Part, partStep, runOf, answersOf}
 use Rattle.claims.specs.Differ.{When, never, sample, firstDiff, firstCover, Covered, Demand3}
 use Rattle.claims.specs.Bent.{arrayUnder, answersUnder, sameWhen, coveredUnder, holdsFor}
 

@@ -18,7 +18,7 @@ use Rattle.refusals.specs.Refusals.{Verdict, accepted, meant, sampleBy, samples
 use Rattle.refusals.specs.declared.Reply.the-variants.{Accepted}
 use Rattle.refusals.proofs.Laws.{apart, rows-equal}
 use Rattle.twin.specs.declared.replays.Replayed.{Replayed}
-use Rattle.twin.specs.Run.{Part, partStep, runOf, answersOf}
+use Rattle.sample.specs.Run.{Part, partStep, runOf, answersOf}
 use Rattle.twin.specs.Promises.{Replays, Runs}
 use Rattle.claims.specs.Demand2.{ByRules, Pieces, Counted, Demand2}
 use Rattle.claims.proofs.OneReply.{meant-one}

@@ -14,7 +14,7 @@ use borrow.Author.Tests.{eqb-true, not-false}
 use Rattle.part.specs.declared.state.State.{State}
 use Rattle.sample.specs.Level.{answerOf}
 use Rattle.sample.specs.Sample.{stepOf, arrayOf}
-use Rattle.twin.specs.Run.{Part, partStep, runOf, answersOf}
+use Rattle.sample.specs.Run.{Part, partStep, runOf, answersOf}
 use Rattle.claims.specs.Sending.{Sent, nothing, sentOf}
 use Rattle.claims.specs.Differ.{never, sample, reaches, firstReach, firstDiff, fetches, covers, firstCover}
 use Rattle.claims.specs.Differ.{EqualBut, FullLoad, sentAfter, SplitAt, Alike, Covered, Demand3}

@@ -28,7 +28,7 @@ use Rattle.device.proofs.Phases.{bit-stays, ninth-releases}
 use Rattle.sample.specs.Level.{sclOf, sdaOf, wpOf}
 use Rattle.sample.specs.Sample.{opensOf, resetOf, startOf, stopOf, byteStep, heardBy, lineOf, seenOf, wiredOf}
 use Rattle.sample.specs.Sample.{goesOnBy, stepOf}
-use Rattle.twin.specs.Run.{Part, partStep}
+use Rattle.sample.specs.Run.{Part, partStep}
 use Rattle.claims.specs.Reachable.{Reachable, Holds}
 use Rattle.claims.proofs.Kept.Steps.{Sits, low-line}
 use Rattle.claims.proofs.Reachable.{Stands, reachable-stands}

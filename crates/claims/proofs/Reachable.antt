@@ -16,7 +16,7 @@ use Rattle.part.specs.declared.state.State.{State}
 use Rattle.part.proofs.Laws.{both-split}
 use Rattle.part.proofs.Known.{kind-sound}
 use Rattle.refusals.specs.Refusals.{accepted, storable, powerBy, powerOf, inRange}
-use Rattle.twin.specs.Run.{Part, partStep, runOf}
+use Rattle.sample.specs.Run.{Part, partStep, runOf}
 use Rattle.twin.specs.Power.{poweredUp}
 use Rattle.claims.specs.Reachable.{atPower, Reachable, speaks, sendsNow, Lowers, acknowledges, sendsZero, Keeps}
 use Rattle.claims.proofs.Kept.Talks.{Voice, rests, answers, sends, fresh}

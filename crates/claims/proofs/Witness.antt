@@ -16,7 +16,7 @@ use Rattle.device.specs.Bytes.{slaveOf, highOf, lowOf, takenOf, byteOf, keptOf,
 use Rattle.device.specs.Ends.{startedOf, stoppedOf, endedOf}
 use Rattle.sample.specs.Level.{answerOf}
 use Rattle.sample.specs.Sample.{opensOf, resetOf, startOf, stopOf, byteStep, seenOf, wiredOf, stepOf, arrayOf}
-use Rattle.twin.specs.Run.{partStep}
+use Rattle.sample.specs.Run.{partStep}
 use Rattle.twin.specs.Power.{poweredUp}
 use Rattle.claims.specs.Sending.{sentOf}
 use Rattle.claims.specs.Differ.{EqualBut, covers}

@@ -19,7 +19,7 @@ use Rattle.refusals.specs.Refusals.{accepted, judgedOf}
 use Rattle.control.specs.Register.{readsOf}
 use Rattle.device.specs.Bytes.{byteOf}
 use Rattle.twin.specs.Power.{poweredUp}
-use Rattle.twin.specs.Run.{Part, runOf, answersOf}
+use Rattle.sample.specs.Run.{Part, runOf, answersOf}
 use Rattle.claims.specs.ImageCases.{P10, P11}
 use Rattle.claims.specs.Reachable.{atPower}
 use Rattle.claims.specs.Traffic.{Capture, joined, wait, start, sent, awake, written, ordered, readAt}

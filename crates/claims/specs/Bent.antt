@@ -18,7 +18,7 @@ use Rattle.wire.specs.Sign.{pushed}
 use Rattle.device.specs.Talk.{withTalk, withControl, sending}
 use Rattle.sample.specs.Level.{answerOf}
 use Rattle.sample.specs.Sample.{withDevice}
-use Rattle.twin.specs.Run.{Part, partStep}
+use Rattle.sample.specs.Run.{Part, partStep}
 use Rattle.claims.specs.Sending.{Sent, nothing, sends, sendsArray, sentOf}
 use Rattle.claims.specs.Differ.{When, never, sample, firstReach, firstDiff, firstCover}
 

@@ -15,7 +15,7 @@ use Rattle.sample.specs.Level.{answerOf}
 use Rattle.refusals.specs.Refusals.{accepted, judgedOf}
 use Rattle.refusals.specs.declared.Reply.the-variants.{Accepted}
 use Rattle.twin.specs.declared.replays.Replayed.{Replayed}
-use Rattle.twin.specs.Run.{Part, runOf, answersOf}
+use Rattle.sample.specs.Run.{Part, runOf, answersOf}
 use Rattle.twin.specs.Promises.{Replays, Runs}
 
 -- A capture that is accepted with a count, and an outcome that keeps the promise (What goes in and what comes out).

@@ -19,7 +19,7 @@ use Rattle.part.specs.declared.state.State.{State}
 use Rattle.wire.specs.declared.Sign.{Sign}
 use Rattle.wire.specs.declared.Sign.the-variants.{Quiet, Start, Stop, Bit, Byte, Ninth}
 use Rattle.sample.specs.Sample.{opensOf, seenOf}
-use Rattle.twin.specs.Run.{Part, partStep, runOf, answersOf}
+use Rattle.sample.specs.Run.{Part, partStep, runOf, answersOf}
 use Rattle.claims.specs.Sending.{Sent, nothing, sends, sentOf, bitFrom}
 
 -- A sample of the row, counted from 0, or none of them (What goes in and what comes out).

@@ -8,7 +8,7 @@ use mathlib.Core.Path.{_≡_}
 use lib.ListN.{length, take, set, replicate}
 use Rattle.part.specs.Numbers.{x4323, smallSize, writeTime}
 use Rattle.refusals.specs.Refusals.{accepted, judgedOf}
-use Rattle.twin.specs.Run.{Part, partStep, runOf, answersOf}
+use Rattle.sample.specs.Run.{Part, partStep, runOf, answersOf}
 use Rattle.twin.specs.Power.{poweredUp}
 use Rattle.claims.specs.Sending.{nothing}
 use Rattle.claims.specs.Differ.{When, never, sample, EqualBut, firstReach, firstDiff, firstCover, elsewhere, sentAfter, coversNone}

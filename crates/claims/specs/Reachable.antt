@@ -25,7 +25,7 @@ use Rattle.part.specs.declared.state.State.{State}
 use Rattle.wire.specs.declared.Sign.the-variants.{Start, Stop}
 use Rattle.refusals.specs.Refusals.{accepted, powerOf, inRange}
 use Rattle.sample.specs.Sample.{opensOf, seenOf}
-use Rattle.twin.specs.Run.{Part, partStep, runOf}
+use Rattle.sample.specs.Run.{Part, partStep, runOf}
 use Rattle.twin.specs.Power.{poweredUp}
 
 -- A part at power-up, with its array (State and time, power-up).

@@ -11,7 +11,7 @@ use Rattle.part.specs.declared.state.Device.{Device}
 use Rattle.wire.specs.declared.Sign.{Sign}
 use Rattle.wire.specs.declared.Sign.the-variants.{Quiet, Start, Stop, Bit, Byte, Ninth}
 use Rattle.sample.specs.Sample.{opensOf, seenOf}
-use Rattle.twin.specs.Run.{Part}
+use Rattle.sample.specs.Run.{Part}
 
 -- Nothing fetched within the samples is being sent, or a byte: the address it was fetched from, its value, the bit that is out.
 pub data Sent : Type 0 where

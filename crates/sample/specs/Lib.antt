@@ -1,3 +1,4 @@
 pub mod Level
 pub mod Sample
 pub mod Promises
+pub mod Run

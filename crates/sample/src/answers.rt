@@ -42,7 +42,8 @@ pub fn line(level: u8, own: bool) -> bool
     false
 }
 
-fn pin(high: bool, reset: bool) -> bool
+// The RESET pin.
+pub fn pin(high: bool, reset: bool) -> bool
     ensures { λ r. ⌜ r ≡ pinBy high reset ⌝ }
 {
     if high {

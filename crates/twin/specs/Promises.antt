@@ -8,7 +8,7 @@ use Rattle.part.specs.declared.state.State.{State}
 use Rattle.control.specs.Register.{readsOf}
 use Rattle.twin.specs.declared.replays.Replayed.{Replayed}
 use Rattle.twin.specs.declared.power.Size.{Size}
-use Rattle.twin.specs.Run.{Part, runOf, answersOf}
+use Rattle.sample.specs.Run.{Part, runOf, answersOf}
 use Rattle.refusals.specs.Refusals.{Verdict, accepted, refused, meant, judgedOf, powerOf}
 use Rattle.twin.specs.Power.{powerState, sizeMeant, sizeBy}
 

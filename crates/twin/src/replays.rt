@@ -23,9 +23,14 @@ fn run(s: State, elapsed: &[u32], levels: &[u8], array: &mut [u8], row: &mut [u8
     let mut state = s;
     let mut i = 0;
     while i < levels.len() {
-        state = steps::step(state, elapsed[i], levels[i], array);
-        row[i] = answers::answer(state);
-        i += 1;
+        let stand = plain::ahead(state, elapsed, levels, array, row, i);
+        state = stand.state;
+        i = stand.at;
+        if i < levels.len() {
+            state = steps::step(state, elapsed[i], levels[i], array);
+            row[i] = answers::answer(state);
+            i += 1;
+        }
     }
     state
 }

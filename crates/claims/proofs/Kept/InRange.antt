@@ -42,7 +42,7 @@ use Rattle.sample.specs.Level.{sclOf, wpOf, vccOf}
 use Rattle.sample.specs.Sample.{withWire, begun, latchedBy, opensOf, resetOf, startOf, stopOf, byteStep, heardBy}
 use Rattle.sample.specs.Sample.{lineOf, seenOf, wiredOf, goesOnBy, stepOf}
 use Rattle.sample.proofs.Sampled.{array-length}
-use Rattle.twin.specs.Run.{Part, partStep, runOf}
+use Rattle.sample.specs.Run.{Part, partStep, runOf}
 use Rattle.claims.proofs.Kept.Signs.{Saw, saw}
 use Rattle.claims.proofs.Kept.Ranges.{Times, timed-times, supplied-times, watched-times, begun-times}
 

@@ -17,7 +17,7 @@ use Rattle.part.proofs.Store.{store-length, store-at}
 use Rattle.wire.specs.declared.Sign.{Sign}
 use Rattle.wire.specs.declared.Sign.the-variants.{Quiet, Start, Stop, Bit, Byte, Ninth}
 use Rattle.sample.specs.Sample.{opensOf, savedBy, writtenBy, seenOf, wiredOf, keepsBy, arrayOf}
-use Rattle.twin.specs.Run.{Part, partStep, runOf}
+use Rattle.sample.specs.Run.{Part, partStep, runOf}
 use Rattle.claims.specs.Differ.{coversBy, covers, coversNone, FullLoad}
 use Rattle.claims.proofs.Sent.TwoArrays.{whole-kept}
 

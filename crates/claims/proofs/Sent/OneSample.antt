@@ -28,7 +28,7 @@ use Rattle.device.specs.Ends.{startedOf, stoppedOf, endedOf}
 use Rattle.sample.specs.Level.{sclOf, wpOf}
 use Rattle.sample.specs.Sample.{withDevice, opensOf, resetOf, startOf, stopOf, byteStep, heardBy, lineOf, seenOf, wiredOf}
 use Rattle.sample.specs.Sample.{goesOnBy, stepOf}
-use Rattle.twin.specs.Run.{Part}
+use Rattle.sample.specs.Run.{Part}
 use Rattle.claims.specs.Sending.{Sent, nothing, sends, sendsArray, fetchedBy, nextSent, sentBy, heardSent, sentOf}
 use Rattle.claims.specs.Sending.{bitFrom}
 use Rattle.claims.specs.Differ.{elsewhere, EqualBut}

@@ -6,7 +6,7 @@ use mathlib.Core.List.{List, [], _∷_}
 use mathlib.Core.Path.{_≡_, refl, sym}
 use borrow.Author.Tests.{eq-eqb}
 use Rattle.part.specs.Cases.{both}
-use Rattle.twin.specs.Run.{Part, partStep, runOf}
+use Rattle.sample.specs.Run.{Part, partStep, runOf}
 use Rattle.claims.specs.Sending.{Sent, nothing, sends, bitFrom}
 use Rattle.claims.specs.Differ.{sameBit, reaches, EqualBut, sentAfter}
 use Rattle.claims.proofs.Sent.OneSample.{Beside, equal, apart}

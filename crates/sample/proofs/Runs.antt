@@ -5,9 +5,9 @@ use mathlib.Core.Path.{_≡_}
 use lib.ListN.{length, getD, take, drop, set, drop-of-length-le}
 use lib.Seq.{drop-cons, take-all, take-suc-set}
 use Rattle.part.specs.declared.state.State.{State}
 use Rattle.sample.specs.Level.{answerOf}
 use Rattle.sample.specs.Sample.{stepOf, arrayOf}
-use Rattle.twin.specs.Run.{Part, partStep, runOf, answersOf}
+use Rattle.sample.specs.Run.{Part, partStep, runOf, answersOf}
 
 -- One sample run: what is left to run from the next part gives the same.
 pub run-turn : (es ls : List ℕ) (i : ℕ) (p q : Part) → i < length es → i < length ls → q ≡ partStep (getD es i 0) (getD ls i 0) p

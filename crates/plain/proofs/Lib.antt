@@ -1,0 +1,10 @@
+pub mod Going
+pub mod Empty
+pub mod Records
+pub mod Seeing
+pub mod Ways
+pub mod Turning
+pub mod Standing
+pub mod Acting
+pub mod Turned
+pub mod Darkness

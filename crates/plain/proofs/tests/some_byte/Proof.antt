@@ -1,0 +1,61 @@
+-- `plain::tests::some_byte` meets its contract: what was found so far or is still to be found is all that there is.
+use Prim.Native.Nat.{_≤_, _<_, _-_}
+use mathlib.Core.Path.{_≡_, refl, sym, _∙_, ap}
+use native.Mathlib.Omega.{arith}
+use native.Mathlib.Numerals.{add-one}
+use borrow.Author.Needs.{needs}
+use lib.ListN.{length, drop, drop-of-length-le}
+use Rattle.part.specs.Cases.{either}
+use Rattle.plain.specs.Tests.{someByte}
+use Rattle.plain.proofs.Empty.{byte-turn, either-none}
+use Rattle.plain.proofs.tests.some_byte.Statement.{statement}
+use Rattle.plain.proofs.tests.some_byte.Tie as tie
+
+abbrev Inv-loop : tie.InvT-loop
+Inv-loop bytes any₀ i₀ any i = (i ≤ 64) × (length bytes ≡ 64) × (either any (someByte (drop i bytes)) ≡ someByte bytes)
+
+abbrev μ-loop : tie.MeasureT-loop
+μ-loop bytes any₀ i₀ any i = 64 - i
+
+loop-holds : tie.Need-loop-holds Inv-loop μ-loop
+loop-holds c = (search needs, search needs, refl)
+
+array-read-either-holds : tie.Need-array-read-either-holds Inv-loop μ-loop
+array-read-either-holds c = search needs
+
+either-holds-requires : tie.Need-either-holds-requires Inv-loop μ-loop
+either-holds-requires c κs = search needs
+
+add-i : tie.Need-add-i Inv-loop μ-loop
+add-i c = omega arith
+
+loop-less : tie.Need-loop-less Inv-loop μ-loop
+loop-less c = omega arith
+
+loop-again : tie.Need-loop-again Inv-loop μ-loop
+loop-again c =
+    let at = c .before .before .loop in
+    let ms = c .before .before .before .args .t1 in
+    let h : at .i < length ms = omega (arith, at .inv .1) in
+    (omega arith, at .inv .1, rw (add-one, c .either-holds .ensures) (byte-turn ms (at .i) (at .any) h ∙ at .inv .2))
+
+returns : tie.Need-returns Inv-loop μ-loop
+returns c =
+    let at = c .before .loop in
+    let ms = c .before .before .args .t1 in
+    let h : length ms ≤ at .i = omega (arith, at .inv .1) in
+    (sym (either-none (at .any)) ∙ ap (λ l. either (at .any) (someByte l)) (sym (drop-of-length-le ms h)) ∙ at .inv .2, at .inv .1)
+
+pub some-byte-spec : {M : Type 1} → statement M
+some-byte-spec =
+    tie.close
+    (tie.spec
+    Inv-loop
+    μ-loop
+    loop-holds
+    array-read-either-holds
+    either-holds-requires
+    add-i
+    loop-less
+    loop-again
+    returns)
