@@ -1,17 +1,19 @@
 -- Laws of the verdicts that several proofs cite. Assumes nothing.
 use Prim.Native.Nat.{ℕ, suc, _+_, _<_, _≤_}
 use mathlib.Core.Bool.{Bool, true, false}
-use mathlib.Core.List.{List}
+use mathlib.Core.List.{List, [], _∷_}
 use mathlib.Core.Path.{_≡_, refl, ap, sym, _∙_}
 use native.Mathlib.Omega.{arith}
 use lib.Dec.{leb, ltb, eqb}
 use lib.ListN.{length, getD, drop, drop-of-length-le}
 use lib.Seq.{drop-cons}
-use borrow.Author.Tests.{lt-ltb, eqb-true}
+use borrow.Author.Count.{below-more}
+use borrow.Author.Tests.{lt-ltb, le-leb, eqb-true}
 use Rattle.part.specs.Numbers.{mostElapsed, mostLevel, mostSamples}
 use Rattle.part.specs.Kind.{kindOf}
 use Rattle.part.specs.declared.state.State.{State}
 use Rattle.refusals.specs.Refusals.{Verdict, accepted, refused, meant, sampleBy, samplesOf, judgedBy, judgedOf, inRange}
+use Rattle.refusals.specs.Search.{AtMost}
 use Rattle.refusals.specs.declared.Reply.{Reply}
 use Rattle.refusals.specs.declared.Reply.the-variants.{Accepted, Refused}
 
@@ -68,3 +70,20 @@ rows-equal s es ls array row n h =
     h
     in
     (eqb-true (length es) (length ls) (t .0), eqb-true (length row) (length ls) (t .1))
+
+-- Rows in which nothing is too large have no faulty sample.
+pub samples-clean : (es ls : List ℕ) (i a b : ℕ) (v : Verdict) → AtMost es a → AtMost ls b → a ≤ mostElapsed → b ≤ mostLevel → samplesOf i es ls v ≡ v
+samples-clean [] ls i a b v x y h k = refl
+samples-clean (e ∷ es) [] i a b v x y h k = refl
+samples-clean (e ∷ es) (l ∷ ls) i a b v x y h k =
+    let p : e ≤ a = x .each 0 (omega arith) in
+    let q : l ≤ b = y .each 0 (omega arith) in
+    rw (le-leb e mostElapsed (omega (arith, p, h)), le-leb l mostLevel (omega (arith, q, k)))
+    (samples-clean es ls (i + 1) a b v (record { each = λ n z. x .each (suc n) (omega arith) }) (record { each = λ n z. y .each (suc n) (omega arith) }) h k)
+
+no-less : (a b c : ℕ) → a ≤ b → b ≤ c → a ≤ c
+no-less a b c h k = omega arith
+
+-- One element more in the search.
+pub most-more : (xs : List ℕ) (i m n : ℕ) → ((j : ℕ) → j < i → getD xs j 0 ≤ m) → m ≤ n → getD xs i 0 ≤ n → (j : ℕ) → j < i + 1 → getD xs j 0 ≤ n
+most-more xs i m n all h k = below-more (λ (j : ℕ). getD xs j 0 ≤ n) i (λ j z. no-less (getD xs j 0) m n (all j z) h) k

@@ -34,13 +34,13 @@ unfolding meant judgedOf
 returns-4 c =
     rw (← c .before .before .before .before .before .before .in-range .ensures, c .before .before .before .before .before .if1 .taken, ← c .before .before .before .before .before .before .before .kind-of .ensures, eq-eqb _ _ (c .before .before .before .if2 .left), eq-eqb _ _ (c .before .before .if3 .left), le-leb _ _ (c .before .if4 .left), ne-eqb _ _ (c .if5 .taken))
 
-faults-requires : tie.Need-faults-requires
-faults-requires c κs = search needs
+samples-requires : tie.Need-samples-requires
+samples-requires c κs = search needs
 
 returns-5 : tie.Need-returns-5
 unfolding judgedOf
 returns-5 c =
-    rw (← c .before .before .before .before .before .before .before .in-range .ensures, c .before .before .before .before .before .before .if1 .taken, ← c .before .before .before .before .before .before .before .before .kind-of .ensures, eq-eqb _ _ (c .before .before .before .before .if2 .left), eq-eqb _ _ (c .before .before .before .if3 .left), le-leb _ _ (c .before .before .if4 .left), eq-eqb _ _ (c .before .if5 .left)) (c .faults .ensures)
+    rw (← c .before .before .before .before .before .before .before .in-range .ensures, c .before .before .before .before .before .before .if1 .taken, ← c .before .before .before .before .before .before .before .before .kind-of .ensures, eq-eqb _ _ (c .before .before .before .before .if2 .left), eq-eqb _ _ (c .before .before .before .if3 .left), le-leb _ _ (c .before .before .if4 .left), eq-eqb _ _ (c .before .if5 .left)) (c .samples .ensures)
 
 returns-6 : tie.Need-returns-6
 unfolding meant judgedOf
@@ -57,6 +57,6 @@ judge-spec =
     returns-2
     returns-3
     returns-4
-    faults-requires
+    samples-requires
     returns-5
     returns-6)
