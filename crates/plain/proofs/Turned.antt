@@ -39,7 +39,22 @@ sees-as w w′ sign c d c′ d′ p q x = rw (← p, ← q) x
 not-over : (all room e left : ℕ) → e < room → room ≤ all → all ≤ left → all - room + e < left
 not-over all room e left h k l = omega arith
 
-module _ (s : State) (es ls array row₀ : List ℕ) (from base : ℕ) (calm : Bool) (write : ℕ) (running : Bool) (left all room : ℕ) (w : Wire) (k : Talk) (p : Place) (m : Load) (row : List ℕ) (i : ℕ) (g : Stands s es ls array row₀ from base calm write running left all room w k p m row i) (c d : Bool) (h : i < length ls) (e : getD es i 0 < room) (v : vccOf (getD ls i 0) ≡ true) (x : c ≡ sclOf (getD ls i 0)) (y : d ≡ both (sdaOf (getD ls i 0)) (k .own)) where
+-- A sample that is plain as far as time and supply go, with what it shows of SCL and of the SDA line.
+pub record Shown (s : State) (es ls array row₀ : List ℕ) (from base : ℕ) (calm : Bool) (write : ℕ) (running : Bool) (left all room : ℕ) (w : Wire) (k : Talk) (p : Place) (m : Load) (row : List ℕ) (i : ℕ) (c d : Bool) : Type 0 where
+  pub stands : Stands s es ls array row₀ from base calm write running left all room w k p m row i
+  pub more : i < length ls
+  pub soon : getD es i 0 < room
+  pub good : vccOf (getD ls i 0) ≡ true
+  pub clock : c ≡ sclOf (getD ls i 0)
+  pub line : d ≡ both (sdaOf (getD ls i 0)) (k .own)
+
+module _ {s : State} {es ls array row₀ : List ℕ} {from base : ℕ} {calm : Bool} {write : ℕ} {running : Bool} {left all room : ℕ} {w : Wire} {k : Talk} {p : Place} {m : Load} {row : List ℕ} {i : ℕ} {c d : Bool} (shown : Shown s es ls array row₀ from base calm write running left all room w k p m row i c d) where
+  abbrev g : Stands s es ls array row₀ from base calm write running left all room w k p m row i
+  g = shown .stands
+
+  abbrev e : getD es i 0 < room
+  e = shown .soon
+
   -- Timers begun anew are those of the start.
   begun-anew : (hold write′ : ℕ) (dog : Watchdog) (w′ : Wire) (n : ℕ) → write′ ≡ write - n → dog ≡ loadedOf (s .device .control .stored)
       → partOf (movedOf s (timersAt hold write′ (dog .running) (dog .left) 0) w′ (talkOf (startPhase (ltb 0 write′)) 0 0 true) p m) array
@@ -56,11 +71,11 @@ module _ (s : State) (es ls array row₀ : List ℕ) (from base : ℕ) (calm : B
       → a ≡ orZero (k′ .own) 1 + base
       → Stands s es ls array row₀ from base calm′ write running left all (room - getD es i 0) w′ k′ p′ m′ (set row i a) (i + 1)
   turned calm′ sign w′ k′ p′ m′ a see act z f =
-      carried s es ls array row₀ from base calm write running left all room w k p m row i g calm′ w′ k′ p′ m′ a h e z
-      (heard s array (getD es i 0) (getD ls i 0) _ _ w w′ k p m sign _ v
+      carried s es ls array row₀ from base calm write running left all room w k p m row i g calm′ w′ k′ p′ m′ a (shown .more) e z
+      (heard s array (getD es i 0) (getD ls i 0) _ _ w w′ k p m sign _ (shown .good)
       (time-passes (s .device .control .stored) (getD es i 0) (s .timers .hold) write left (all - room) running watches)
       refl
-      (sees-as w w′ sign c d _ _ x y see)
+      (sees-as w w′ sign c d _ _ (shown .clock) (shown .line) see)
       (act .state _)
       (act .kept _))
       f
@@ -87,12 +102,12 @@ module _ (s : State) (es ls array row₀ : List ℕ) (from base : ℕ) (calm : B
         calms = g .calms;
         goes =
             rw (z, add-one)
-            (goes-on es ls row₀ row from i (partOf s array) _ (g .goes) a _ (g .long) (g .wide) h
+            (goes-on es ls row₀ row from i (partOf s array) _ (g .goes) a _ (g .long) (g .wide) (shown .more)
             (begun-anew (s .timers .hold) write′ dog w′ (all - room + getD es i 0) fell n
-            ∙ heard s array (getD es i 0) (getD ls i 0) _ _ w w′ k p m Start _ v
+            ∙ heard s array (getD es i 0) (getD ls i 0) _ _ w w′ k p m Start _ (shown .good)
             (time-passes (s .device .control .stored) (getD es i 0) (s .timers .hold) write left (all - room) running watches)
             refl
-            (sees-as w w′ Start c d _ _ x y see)
+            (sees-as w w′ Start c d _ _ (shown .clock) (shown .line) see)
             (start-acts s array (wpOf (getD ls i 0)) w′ (k .phase) (k .high) (k .out) (k .own) p m _ (g .calms q))
             refl)
             (f ∙ ap (λ (t : ℕ). 1 + t) rests ∙ sym (answer-at s write′ (dog .left) 0 (dog .running) w′ (talkOf (startPhase (ltb 0 write′)) 0 0 true) p m (λ t. t))));

@@ -14,7 +14,7 @@ use Rattle.plain.proofs.Acting.{talkOf, quiet-acts, bit-heard, bit-sent
 use Rattle.plain.proofs.Acting.{ninth-past, ninth-heard, ninth-ends, ninth-fetches, stop-acts}
 use Rattle.plain.proofs.Standing.{Stands, stands-first}
 use Rattle.plain.proofs.Going.{goes-none}
-use Rattle.plain.proofs.Turned.{turned, started}
+use Rattle.plain.proofs.Turned.{Shown, turned, started}
 use Rattle.plain.proofs.awake.pass.Statement.{statement}
 use Rattle.plain.proofs.awake.pass.Tie as tie
 
@@ -28,6 +28,22 @@ Inv-loop s elapsed levels array row₀ from control kind dog base calm₀ write�
 abbrev μ-loop : tie.MeasureT-loop
 μ-loop s elapsed levels array row₀ from control kind dog base calm₀ write₀ running₀ left₀ all₀ room₀ scl₀ sda₀ held₀ bit₀ bits₀ shift₀ phase₀ high₀ out₀ own₀ place₀ load₀ i₀ row calm write running left all room scl sda held bit bits shift phase high out own place load i =
     length levels - i
+
+-- What every way through a turn knows, once SCL and the SDA line are read.
+seen : (c : tie.After-line Inv-loop μ-loop)
+    → Shown (c .before .before .before .before .before .before .before .before .before .before .before .before .before .before .before .before .before .before .before .before .before .before .before .before .before .before .before .before .before .before .args .s) (c .before .before .before .before .before .before .before .before .before .before .before .before .before .before .before .before .before .before .before .before .before .before .before .before .before .before .before .before .before .before .args .elapsed .now) (c .before .before .before .before .before .before .before .before .before .before .before .before .before .before .before .before .before .before .before .before .before .before .before .before .before .before .before .before .before .before .args .levels .now) (c .before .before .before .before .before .before .before .before .before .before .before .before .before .before .before .before .before .before .before .before .before .before .before .before .before .before .before .before .before .before .args .array .now) (c .before .before .before .before .before .before .before .before .before .before .before .before .before .before .before .before .before .before .before .before .before .before .before .before .before .before .before .before .before .before .args .row .now) (c .before .before .before .before .before .before .before .before .before .before .before .before .before .before .before .before .before .before .before .before .before .before .before .before .before .before .before .before .before .before .args .from) (c .before .before .before .before .before .before .before .before .before .before .before .base-of .result)
+    (c .before .before .before .before .before .before .before .before .loop .calm) (c .before .before .before .before .before .before .before .before .loop .write) (c .before .before .before .before .before .before .before .before .loop .running) (c .before .before .before .before .before .before .before .before .loop .left) (c .before .before .before .before .before .before .before .before .loop .all) (c .before .before .before .before .before .before .before .before .loop .room)
+    (wireAt (c .before .before .before .before .before .before .before .before .loop .scl) (c .before .before .before .before .before .before .before .before .loop .sda) (frameOf (c .before .before .before .before .before .before .before .before .loop .held) (c .before .before .before .before .before .before .before .before .loop .bit) (c .before .before .before .before .before .before .before .before .loop .bits) (c .before .before .before .before .before .before .before .before .loop .shift)))
+    (talkOf (c .before .before .before .before .before .before .before .before .loop .phase) (c .before .before .before .before .before .before .before .before .loop .high) (c .before .before .before .before .before .before .before .before .loop .out) (c .before .before .before .before .before .before .before .before .loop .own)) (c .before .before .before .before .before .before .before .before .loop .place) (c .before .before .before .before .before .before .before .before .loop .load) (c .before .before .before .before .before .before .before .before .loop .row) (c .before .before .before .before .before .before .before .before .loop .i) (c .before .scl .result) (c .line .result)
+seen c =
+    record {
+      stands = c .before .before .before .before .before .before .before .before .loop .inv .0;
+      more = c .before .before .before .before .before .before .before .loop-test .taken;
+      soon = c .before .before .if4 .taken;
+      good = sym (c .before .before .before .before .vcc .ensures) ∙ c .before .before .before .if3 .taken;
+      clock = c .before .scl .ensures;
+      line = c .line .ensures;
+    }
 
 returns : tie.Need-returns Inv-loop μ-loop
 returns c = goes-none _ _ _ _ _ (c .before .before .before .before .before .before .before .before .before .before .before .before .before .before .before .pre .1 .1)
@@ -100,9 +116,10 @@ loop-less c = omega (arith, c .before .before .before .before .before .before .b
 
 loop-again : tie.Need-loop-again Inv-loop μ-loop
 loop-again c =
+    let g = seen (c .before .before .before .before .before) in
     let at = c .before .before .before .before .before .before .before .before .before .before .before .before .before .loop in
     let s = c .before .before .before .before .before .before .before .before .before .before .before .before .before .before .before .before .before .before .before .before .before .before .before .before .before .before .before .before .before .before .before .before .before .before .before .args .s in
-    (turned _ _ _ _ _ _ _ _ _ _ _ _ _ _ _ _ _ _ _ (at .inv .0) _ _ (c .before .before .before .before .before .before .before .before .before .before .before .before .loop-test .taken) (c .before .before .before .before .before .before .before .if4 .taken) (sym (c .before .before .before .before .before .before .before .before .before .vcc .ensures) ∙ c .before .before .before .before .before .before .before .before .if3 .taken) (c .before .before .before .before .before .before .scl .ensures) (c .before .before .before .before .before .line .ensures) _ _ _ _ _ _ _ (same-lines _ _ _ _ _ (c .before .before .before .before .if5 .taken) (c .before .before .before .if6 .taken) (sym (c .before .before .same .ensures) ∙ c .before .if7 .taken)) (quiet-acts s _ _ _ _ _ _ _ _ _) (at .inv .0 .calms) (c .said .ensures), at .inv .1, at .inv .2, at .inv .3)
+    (turned g _ _ _ _ _ _ _ (same-lines _ _ _ _ _ (c .before .before .before .before .if5 .taken) (c .before .before .before .if6 .taken) (sym (c .before .before .same .ensures) ∙ c .before .if7 .taken)) (quiet-acts s _ _ _ _ _ _ _ _ _) (g .stands .calms) (c .said .ensures), at .inv .1, at .inv .2, at .inv .3)
 
 said-requires-2 : tie.Need-said-requires-2 Inv-loop μ-loop
 said-requires-2 c κs = c .before .before .before .before .before .before .before .before .before .before .before .before .before .loop .inv .0 .small
@@ -120,9 +137,10 @@ loop-less-2 c = omega (arith, c .before .before .before .before .before .before 
 
 loop-again-2 : tie.Need-loop-again-2 Inv-loop μ-loop
 loop-again-2 c =
+    let g = seen (c .before .before .before .before .before .before .before) in
     let at = c .before .before .before .before .before .before .before .before .before .before .before .before .before .before .before .loop in
     let s = c .before .before .before .before .before .before .before .before .before .before .before .before .before .before .before .before .before .before .before .before .before .before .before .before .before .before .before .before .before .before .before .before .before .before .before .before .before .args .s in
-    (turned _ _ _ _ _ _ _ _ _ _ _ _ _ _ _ _ _ _ _ (at .inv .0) _ _ (c .before .before .before .before .before .before .before .before .before .before .before .before .before .before .loop-test .taken) (c .before .before .before .before .before .before .before .before .before .if4 .taken) (sym (c .before .before .before .before .before .before .before .before .before .before .before .vcc .ensures) ∙ c .before .before .before .before .before .before .before .before .before .before .if3 .taken) (c .before .before .before .before .before .before .before .before .scl .ensures) (c .before .before .before .before .before .before .before .line .ensures) _ _ _ _ _ _ _ (stop-seen _ _ _ _ _ (c .before .before .before .before .before .before .if5 .taken) (c .before .before .before .before .before .if6 .taken) (sym (c .before .before .before .before .same .ensures) ∙ c .before .before .before .if7 .left) (c .if9 .taken)) (stop-acts s _ _ _ _ _ _ _ _ _ (_) (at .inv .0 .calms (c .before .before .if8 .taken))) (at .inv .0 .calms) (c .before .said2 .ensures), at .inv .1, at .inv .2, at .inv .3)
+    (turned g _ _ _ _ _ _ _ (stop-seen _ _ _ _ _ (c .before .before .before .before .before .before .if5 .taken) (c .before .before .before .before .before .if6 .taken) (sym (c .before .before .before .before .same .ensures) ∙ c .before .before .before .if7 .left) (c .if9 .taken)) (stop-acts s _ _ _ _ _ _ _ _ _ (_) (g .stands .calms (c .before .before .if8 .taken))) (g .stands .calms) (c .before .said2 .ensures), at .inv .1, at .inv .2, at .inv .3)
 
 sub-less : tie.Need-sub-less Inv-loop μ-loop
 sub-less c = omega (arith, c .before .before .before .before .before .before .before .before .before .before .before .before .before .before .before .loop .inv .0 .fits)
@@ -141,8 +159,9 @@ loop-less-3 c = omega (arith, c .before .before .before .before .before .before 
 
 loop-again-3 : tie.Need-loop-again-3 Inv-loop μ-loop
 loop-again-3 c =
+    let g = seen (c .before .before .before .before .before .before .before .before .before .before) in
     let at = c .before .before .before .before .before .before .before .before .before .before .before .before .before .before .before .before .before .before .loop in
-    (rw (c .before .start-phase .ensures) (started _ _ _ _ _ _ _ _ _ _ _ _ _ _ _ _ _ _ _ (at .inv .0) _ _ (c .before .before .before .before .before .before .before .before .before .before .before .before .before .before .before .before .before .loop-test .taken) (c .before .before .before .before .before .before .before .before .before .before .before .before .if4 .taken) (sym (c .before .before .before .before .before .before .before .before .before .before .before .before .before .before .vcc .ensures) ∙ c .before .before .before .before .before .before .before .before .before .before .before .before .before .if3 .taken) (c .before .before .before .before .before .before .before .before .before .before .before .scl .ensures) (c .before .before .before .before .before .before .before .before .before .before .line .ensures) _ _ _ _ _ (start-seen _ _ _ _ _ (c .before .before .before .before .before .before .before .before .before .if5 .taken) (c .before .before .before .before .before .before .before .before .if6 .taken) (sym (c .before .before .before .before .before .before .before .same .ensures) ∙ c .before .before .before .before .before .before .if7 .left) (c .before .before .before .if9 .left)) (c .before .before .before .before .before .if8 .taken) (c .before .before .less .ensures) (at .inv .3) (c .room-of2 .ensures) (c .before .before .before .before .said2 .ensures)), at .inv .1, at .inv .2, at .inv .3)
+    (rw (c .before .start-phase .ensures) (started g _ _ _ _ _ (start-seen _ _ _ _ _ (c .before .before .before .before .before .before .before .before .before .if5 .taken) (c .before .before .before .before .before .before .before .before .if6 .taken) (sym (c .before .before .before .before .before .before .before .same .ensures) ∙ c .before .before .before .before .before .before .if7 .left) (c .before .before .before .if9 .left)) (c .before .before .before .before .before .if8 .taken) (c .before .before .less .ensures) (at .inv .3) (c .room-of2 .ensures) (c .before .before .before .before .said2 .ensures)), at .inv .1, at .inv .2, at .inv .3)
 
 way-of-requires : tie.Need-way-of-requires Inv-loop μ-loop
 way-of-requires c κs = search needs
@@ -169,9 +188,10 @@ loop-less-4 c = omega (arith, c .before .before .before .before .before .before 
 
 loop-again-4 : tie.Need-loop-again-4 Inv-loop μ-loop
 loop-again-4 c =
+    let g = seen (c .before .before .before .before .before .before .before .before) in
     let at = c .before .before .before .before .before .before .before .before .before .before .before .before .before .before .before .before .loop in
     let s = c .before .before .before .before .before .before .before .before .before .before .before .before .before .before .before .before .before .before .before .before .before .before .before .before .before .before .before .before .before .before .before .before .before .before .before .before .before .before .args .s in
-    (rw (c .before .before .push .ensures) (turned _ _ _ _ _ _ _ _ _ _ _ _ _ _ _ _ _ _ _ (at .inv .0) _ _ (c .before .before .before .before .before .before .before .before .before .before .before .before .before .before .before .loop-test .taken) (c .before .before .before .before .before .before .before .before .before .before .if4 .taken) (sym (c .before .before .before .before .before .before .before .before .before .before .before .before .vcc .ensures) ∙ c .before .before .before .before .before .before .before .before .before .before .before .if3 .taken) (c .before .before .before .before .before .before .before .before .before .scl .ensures) (c .before .before .before .before .before .before .before .before .line .ensures) _ _ _ _ _ _ _ (fall-bit _ _ _ _ _ _ _ _ (c .before .before .before .before .before .before .before .if5 .taken) (c .before .before .before .before .before .before .if6 .left) (c .before .before .before .before .before .if10 .taken) (c .before .before .before .if11 .taken)) (bit-heard s _ _ _ _ _ _ _ _ _ (subst (λ x. x < 3) (c .before .before .before .before .way-of .ensures) (c .before .if12 .taken))) (at .inv .0 .calms) (c .said3 .ensures)), at .inv .1, at .inv .2, at .inv .3)
+    (rw (c .before .before .push .ensures) (turned g _ _ _ _ _ _ _ (fall-bit _ _ _ _ _ _ _ _ (c .before .before .before .before .before .before .before .if5 .taken) (c .before .before .before .before .before .before .if6 .left) (c .before .before .before .before .before .if10 .taken) (c .before .before .before .if11 .taken)) (bit-heard s _ _ _ _ _ _ _ _ _ (subst (λ x. x < 3) (c .before .before .before .before .way-of .ensures) (c .before .if12 .taken))) (g .stands .calms) (c .said3 .ensures)), at .inv .1, at .inv .2, at .inv .3)
 
 shifted-requires : tie.Need-shifted-requires Inv-loop μ-loop
 shifted-requires c κs = search needs
@@ -195,9 +215,10 @@ loop-less-5 c = omega (arith, c .before .before .before .before .before .before 
 
 loop-again-5 : tie.Need-loop-again-5 Inv-loop μ-loop
 loop-again-5 c =
+    let g = seen (c .before .before .before .before .before .before .before .before .before .before) in
     let at = c .before .before .before .before .before .before .before .before .before .before .before .before .before .before .before .before .before .before .loop in
     let s = c .before .before .before .before .before .before .before .before .before .before .before .before .before .before .before .before .before .before .before .before .before .before .before .before .before .before .before .before .before .before .before .before .before .before .before .before .before .before .before .before .args .s in
-    (rw (c .before .top .ensures, c .before .before .shifted .ensures, c .before .before .before .before .push .ensures) (turned _ _ _ _ _ _ _ _ _ _ _ _ _ _ _ _ _ _ _ (at .inv .0) _ _ (c .before .before .before .before .before .before .before .before .before .before .before .before .before .before .before .before .before .loop-test .taken) (c .before .before .before .before .before .before .before .before .before .before .before .before .if4 .taken) (sym (c .before .before .before .before .before .before .before .before .before .before .before .before .before .before .vcc .ensures) ∙ c .before .before .before .before .before .before .before .before .before .before .before .before .before .if3 .taken) (c .before .before .before .before .before .before .before .before .before .before .before .scl .ensures) (c .before .before .before .before .before .before .before .before .before .before .line .ensures) _ _ _ _ _ _ _ (fall-bit _ _ _ _ _ _ _ _ (c .before .before .before .before .before .before .before .before .before .if5 .taken) (c .before .before .before .before .before .before .before .before .if6 .left) (c .before .before .before .before .before .before .before .if10 .taken) (c .before .before .before .before .before .if11 .taken)) (bit-sent s _ _ _ _ _ _ _ _ _ (subst (λ x. 3 ≤ x) (c .before .before .before .before .before .before .way-of .ensures) (c .before .before .before .if12 .left))) (at .inv .0 .calms) (c .said4 .ensures ∙ ap (λ (b : Bool). orZero b 1 + c .before .before .before .before .before .before .before .before .before .before .before .before .before .before .before .before .before .before .before .before .before .base-of .result) (c .before .top .ensures ∙ ap highest (c .before .before .shifted .ensures)))), at .inv .1, at .inv .2, at .inv .3)
+    (rw (c .before .top .ensures, c .before .before .shifted .ensures, c .before .before .before .before .push .ensures) (turned g _ _ _ _ _ _ _ (fall-bit _ _ _ _ _ _ _ _ (c .before .before .before .before .before .before .before .before .before .if5 .taken) (c .before .before .before .before .before .before .before .before .if6 .left) (c .before .before .before .before .before .before .before .if10 .taken) (c .before .before .before .before .before .if11 .taken)) (bit-sent s _ _ _ _ _ _ _ _ _ (subst (λ x. 3 ≤ x) (c .before .before .before .before .before .before .way-of .ensures) (c .before .before .before .if12 .left))) (g .stands .calms) (c .said4 .ensures ∙ ap (λ (b : Bool). orZero b 1 + c .before .before .before .before .before .before .before .before .before .before .before .before .before .before .before .before .before .before .before .before .before .base-of .result) (c .before .top .ensures ∙ ap highest (c .before .before .shifted .ensures)))), at .inv .1, at .inv .2, at .inv .3)
 
 push-requires-2 : tie.Need-push-requires-2 Inv-loop μ-loop
 push-requires-2 c κs = search needs
@@ -218,9 +239,10 @@ loop-less-6 c = omega (arith, c .before .before .before .before .before .before 
 
 loop-again-6 : tie.Need-loop-again-6 Inv-loop μ-loop
 loop-again-6 c =
+    let g = seen (c .before .before .before .before .before .before .before .before .before) in
     let at = c .before .before .before .before .before .before .before .before .before .before .before .before .before .before .before .before .before .loop in
     let s = c .before .before .before .before .before .before .before .before .before .before .before .before .before .before .before .before .before .before .before .before .before .before .before .before .before .before .before .before .before .before .before .before .before .before .before .before .before .before .before .args .s in
-    (rw (c .before .before .push2 .ensures) (turned _ _ _ _ _ _ _ _ _ _ _ _ _ _ _ _ _ _ _ (at .inv .0) _ _ (c .before .before .before .before .before .before .before .before .before .before .before .before .before .before .before .before .loop-test .taken) (c .before .before .before .before .before .before .before .before .before .before .before .if4 .taken) (sym (c .before .before .before .before .before .before .before .before .before .before .before .before .before .vcc .ensures) ∙ c .before .before .before .before .before .before .before .before .before .before .before .before .if3 .taken) (c .before .before .before .before .before .before .before .before .before .before .scl .ensures) (c .before .before .before .before .before .before .before .before .before .line .ensures) _ _ _ _ _ _ _ (fall-byte _ _ _ _ _ _ _ _ (c .before .before .before .before .before .before .before .before .if5 .taken) (c .before .before .before .before .before .before .before .if6 .left) (c .before .before .before .before .before .before .if10 .taken) (c .before .before .before .if13 .taken)) (byte-past s _ _ _ _ _ _ _ _ _ (_) (sym (c .before .before .before .before .before .way-of .ensures) ∙ c .before .if14 .taken)) (at .inv .0 .calms) (c .said5 .ensures)), at .inv .1, at .inv .2, at .inv .3)
+    (rw (c .before .before .push2 .ensures) (turned g _ _ _ _ _ _ _ (fall-byte _ _ _ _ _ _ _ _ (c .before .before .before .before .before .before .before .before .if5 .taken) (c .before .before .before .before .before .before .before .if6 .left) (c .before .before .before .before .before .before .if10 .taken) (c .before .before .before .if13 .taken)) (byte-past s _ _ _ _ _ _ _ _ _ (_) (sym (c .before .before .before .before .before .way-of .ensures) ∙ c .before .if14 .taken)) (g .stands .calms) (c .said5 .ensures)), at .inv .1, at .inv .2, at .inv .3)
 
 said-requires-6 : tie.Need-said-requires-6 Inv-loop μ-loop
 said-requires-6 c κs = c .before .before .before .before .before .before .before .before .before .before .before .before .before .before .before .before .before .loop .inv .0 .small
@@ -238,9 +260,10 @@ loop-less-7 c = omega (arith, c .before .before .before .before .before .before 
 
 loop-again-7 : tie.Need-loop-again-7 Inv-loop μ-loop
 loop-again-7 c =
+    let g = seen (c .before .before .before .before .before .before .before .before .before .before) in
     let at = c .before .before .before .before .before .before .before .before .before .before .before .before .before .before .before .before .before .before .loop in
     let s = c .before .before .before .before .before .before .before .before .before .before .before .before .before .before .before .before .before .before .before .before .before .before .before .before .before .before .before .before .before .before .before .before .before .before .before .before .before .before .before .before .args .s in
-    (rw (c .before .before .before .push2 .ensures) (turned _ _ _ _ _ _ _ _ _ _ _ _ _ _ _ _ _ _ _ (at .inv .0) _ _ (c .before .before .before .before .before .before .before .before .before .before .before .before .before .before .before .before .before .loop-test .taken) (c .before .before .before .before .before .before .before .before .before .before .before .before .if4 .taken) (sym (c .before .before .before .before .before .before .before .before .before .before .before .before .before .before .vcc .ensures) ∙ c .before .before .before .before .before .before .before .before .before .before .before .before .before .if3 .taken) (c .before .before .before .before .before .before .before .before .before .before .before .scl .ensures) (c .before .before .before .before .before .before .before .before .before .before .line .ensures) _ _ _ _ _ _ _ (fall-byte _ _ _ _ _ _ _ _ (c .before .before .before .before .before .before .before .before .before .if5 .taken) (c .before .before .before .before .before .before .before .before .if6 .left) (c .before .before .before .before .before .before .before .if10 .taken) (c .before .before .before .before .if13 .taken)) (byte-sent s _ _ _ _ _ _ _ _ _ (_) (sym (c .before .before .before .before .before .before .way-of .ensures) ∙ c .before .if15 .taken)) (at .inv .0 .calms) (c .said6 .ensures)), at .inv .1, at .inv .2, at .inv .3)
+    (rw (c .before .before .before .push2 .ensures) (turned g _ _ _ _ _ _ _ (fall-byte _ _ _ _ _ _ _ _ (c .before .before .before .before .before .before .before .before .before .if5 .taken) (c .before .before .before .before .before .before .before .before .if6 .left) (c .before .before .before .before .before .before .before .if10 .taken) (c .before .before .before .before .if13 .taken)) (byte-sent s _ _ _ _ _ _ _ _ _ (_) (sym (c .before .before .before .before .before .before .way-of .ensures) ∙ c .before .if15 .taken)) (g .stands .calms) (c .said6 .ensures)), at .inv .1, at .inv .2, at .inv .3)
 
 takes-requires : tie.Need-takes-requires Inv-loop μ-loop
 takes-requires c κs = search needs
@@ -273,9 +296,10 @@ loop-less-8 c = omega (arith, c .before .before .before .before .before .before 
 
 loop-again-8 : tie.Need-loop-again-8 Inv-loop μ-loop
 loop-again-8 c =
+    let g = seen (c .before .before .before .before .before .before .before .before .before .before .before .before .before .before .before) in
     let at = c .before .before .before .before .before .before .before .before .before .before .before .before .before .before .before .before .before .before .before .before .before .before .before .loop in
     let s = c .before .before .before .before .before .before .before .before .before .before .before .before .before .before .before .before .before .before .before .before .before .before .before .before .before .before .before .before .before .before .before .before .before .before .before .before .before .before .before .before .before .before .before .before .before .args .s in
-    (rw (c .before .next-in-page .ensures, c .before .before .before .before .before .before .before .before .push2 .ensures) (turned _ _ _ _ _ _ _ _ _ _ _ _ _ _ _ _ _ _ _ (at .inv .0) _ _ (c .before .before .before .before .before .before .before .before .before .before .before .before .before .before .before .before .before .before .before .before .before .before .loop-test .taken) (c .before .before .before .before .before .before .before .before .before .before .before .before .before .before .before .before .before .if4 .taken) (sym (c .before .before .before .before .before .before .before .before .before .before .before .before .before .before .before .before .before .before .before .vcc .ensures) ∙ c .before .before .before .before .before .before .before .before .before .before .before .before .before .before .before .before .before .before .if3 .taken) (c .before .before .before .before .before .before .before .before .before .before .before .before .before .before .before .before .scl .ensures) (c .before .before .before .before .before .before .before .before .before .before .before .before .before .before .before .line .ensures) false _ _ _ _ _ _ (fall-byte _ _ _ _ _ _ _ _ (c .before .before .before .before .before .before .before .before .before .before .before .before .before .before .if5 .taken) (c .before .before .before .before .before .before .before .before .before .before .before .before .before .if6 .left) (c .before .before .before .before .before .before .before .before .before .before .before .before .if10 .taken) (c .before .before .before .before .before .before .before .before .before .if13 .taken)) (byte-taken s _ _ _ _ _ _ _ _ _ (_) (sym (c .before .before .before .before .before .before .before .before .before .before .before .way-of .ensures) ∙ c .before .before .before .before .before .if16 .taken) (rw (← at .inv .2) (sym (c .before .before .before .before .takes .ensures) ∙ c .before .before .before .if17 .taken))) (never) (c .said7 .ensures)), at .inv .1, at .inv .2, at .inv .3)
+    (rw (c .before .next-in-page .ensures, c .before .before .before .before .before .before .before .before .push2 .ensures) (turned g false _ _ _ _ _ _ (fall-byte _ _ _ _ _ _ _ _ (c .before .before .before .before .before .before .before .before .before .before .before .before .before .before .if5 .taken) (c .before .before .before .before .before .before .before .before .before .before .before .before .before .if6 .left) (c .before .before .before .before .before .before .before .before .before .before .before .before .if10 .taken) (c .before .before .before .before .before .before .before .before .before .if13 .taken)) (byte-taken s _ _ _ _ _ _ _ _ _ (_) (sym (c .before .before .before .before .before .before .before .before .before .before .before .way-of .ensures) ∙ c .before .before .before .before .before .if16 .taken) (rw (← at .inv .2) (sym (c .before .before .before .before .takes .ensures) ∙ c .before .before .before .if17 .taken))) (never) (c .said7 .ensures)), at .inv .1, at .inv .2, at .inv .3)
 
 said-requires-8 : tie.Need-said-requires-8 Inv-loop μ-loop
 said-requires-8 c κs = c .before .before .before .before .before .before .before .before .before .before .before .before .before .before .before .before .loop .inv .0 .small
@@ -293,9 +317,10 @@ loop-less-9 c = omega (arith, c .before .before .before .before .before .before 
 
 loop-again-9 : tie.Need-loop-again-9 Inv-loop μ-loop
 loop-again-9 c =
+    let g = seen (c .before .before .before .before .before .before .before .before .before) in
     let at = c .before .before .before .before .before .before .before .before .before .before .before .before .before .before .before .before .before .loop in
     let s = c .before .before .before .before .before .before .before .before .before .before .before .before .before .before .before .before .before .before .before .before .before .before .before .before .before .before .before .before .before .before .before .before .before .before .before .before .before .before .before .args .s in
-    (turned _ _ _ _ _ _ _ _ _ _ _ _ _ _ _ _ _ _ _ (at .inv .0) _ _ (c .before .before .before .before .before .before .before .before .before .before .before .before .before .before .before .before .loop-test .taken) (c .before .before .before .before .before .before .before .before .before .before .before .if4 .taken) (sym (c .before .before .before .before .before .before .before .before .before .before .before .before .before .vcc .ensures) ∙ c .before .before .before .before .before .before .before .before .before .before .before .before .if3 .taken) (c .before .before .before .before .before .before .before .before .before .before .scl .ensures) (c .before .before .before .before .before .before .before .before .before .line .ensures) _ _ _ _ _ _ _ (fall-ninth _ _ _ _ _ _ _ _ (c .before .before .before .before .before .before .before .before .if5 .taken) (c .before .before .before .before .before .before .before .if6 .left) (c .before .before .before .before .before .before .if10 .taken) (c .before .before .before .before .if11 .left) (c .before .before .before .if13 .left)) (ninth-past s _ _ _ _ _ _ _ _ _ (_) (sym (c .before .before .before .before .before .way-of .ensures) ∙ c .before .if19 .taken)) (at .inv .0 .calms) (c .said8 .ensures), at .inv .1, at .inv .2, at .inv .3)
+    (turned g _ _ _ _ _ _ _ (fall-ninth _ _ _ _ _ _ _ _ (c .before .before .before .before .before .before .before .before .if5 .taken) (c .before .before .before .before .before .before .before .if6 .left) (c .before .before .before .before .before .before .if10 .taken) (c .before .before .before .before .if11 .left) (c .before .before .before .if13 .left)) (ninth-past s _ _ _ _ _ _ _ _ _ (_) (sym (c .before .before .before .before .before .way-of .ensures) ∙ c .before .if19 .taken)) (g .stands .calms) (c .said8 .ensures), at .inv .1, at .inv .2, at .inv .3)
 
 said-requires-9 : tie.Need-said-requires-9 Inv-loop μ-loop
 said-requires-9 c κs = c .before .before .before .before .before .before .before .before .before .before .before .before .before .before .before .before .before .loop .inv .0 .small
@@ -313,9 +338,10 @@ loop-less-10 c = omega (arith, c .before .before .before .before .before .before
 
 loop-again-10 : tie.Need-loop-again-10 Inv-loop μ-loop
 loop-again-10 c =
+    let g = seen (c .before .before .before .before .before .before .before .before .before .before) in
     let at = c .before .before .before .before .before .before .before .before .before .before .before .before .before .before .before .before .before .before .loop in
     let s = c .before .before .before .before .before .before .before .before .before .before .before .before .before .before .before .before .before .before .before .before .before .before .before .before .before .before .before .before .before .before .before .before .before .before .before .before .before .before .before .before .args .s in
-    (turned _ _ _ _ _ _ _ _ _ _ _ _ _ _ _ _ _ _ _ (at .inv .0) _ _ (c .before .before .before .before .before .before .before .before .before .before .before .before .before .before .before .before .before .loop-test .taken) (c .before .before .before .before .before .before .before .before .before .before .before .before .if4 .taken) (sym (c .before .before .before .before .before .before .before .before .before .before .before .before .before .before .vcc .ensures) ∙ c .before .before .before .before .before .before .before .before .before .before .before .before .before .if3 .taken) (c .before .before .before .before .before .before .before .before .before .before .before .scl .ensures) (c .before .before .before .before .before .before .before .before .before .before .line .ensures) _ _ _ _ _ _ _ (fall-ninth _ _ _ _ _ _ _ _ (c .before .before .before .before .before .before .before .before .before .if5 .taken) (c .before .before .before .before .before .before .before .before .if6 .left) (c .before .before .before .before .before .before .before .if10 .taken) (c .before .before .before .before .before .if11 .left) (c .before .before .before .before .if13 .left)) (ninth-heard s _ _ _ _ _ _ _ _ _ (_) (λ z. c .before .before .before .if18 .left (c .before .before .before .before .before .before .way-of .ensures ∙ z)) (λ z. c .before .before .if19 .left (c .before .before .before .before .before .before .way-of .ensures ∙ z)) (subst (λ x. x < 3) (c .before .before .before .before .before .before .way-of .ensures) (c .before .if20 .taken))) (at .inv .0 .calms) (c .said9 .ensures), at .inv .1, at .inv .2, at .inv .3)
+    (turned g _ _ _ _ _ _ _ (fall-ninth _ _ _ _ _ _ _ _ (c .before .before .before .before .before .before .before .before .before .if5 .taken) (c .before .before .before .before .before .before .before .before .if6 .left) (c .before .before .before .before .before .before .before .if10 .taken) (c .before .before .before .before .before .if11 .left) (c .before .before .before .before .if13 .left)) (ninth-heard s _ _ _ _ _ _ _ _ _ (_) (λ z. c .before .before .before .if18 .left (c .before .before .before .before .before .before .way-of .ensures ∙ z)) (λ z. c .before .before .if19 .left (c .before .before .before .before .before .before .way-of .ensures ∙ z)) (subst (λ x. x < 3) (c .before .before .before .before .before .before .way-of .ensures) (c .before .if20 .taken))) (g .stands .calms) (c .said9 .ensures), at .inv .1, at .inv .2, at .inv .3)
 
 said-requires-10 : tie.Need-said-requires-10 Inv-loop μ-loop
 said-requires-10 c κs = c .before .before .before .before .before .before .before .before .before .before .before .before .before .before .before .before .before .before .loop .inv .0 .small
@@ -333,9 +359,10 @@ loop-less-11 c = omega (arith, c .before .before .before .before .before .before
 
 loop-again-11 : tie.Need-loop-again-11 Inv-loop μ-loop
 loop-again-11 c =
+    let g = seen (c .before .before .before .before .before .before .before .before .before .before .before) in
     let at = c .before .before .before .before .before .before .before .before .before .before .before .before .before .before .before .before .before .before .before .loop in
     let s = c .before .before .before .before .before .before .before .before .before .before .before .before .before .before .before .before .before .before .before .before .before .before .before .before .before .before .before .before .before .before .before .before .before .before .before .before .before .before .before .before .before .args .s in
-    (turned _ _ _ _ _ _ _ _ _ _ _ _ _ _ _ _ _ _ _ (at .inv .0) _ _ (c .before .before .before .before .before .before .before .before .before .before .before .before .before .before .before .before .before .before .loop-test .taken) (c .before .before .before .before .before .before .before .before .before .before .before .before .before .if4 .taken) (sym (c .before .before .before .before .before .before .before .before .before .before .before .before .before .before .before .vcc .ensures) ∙ c .before .before .before .before .before .before .before .before .before .before .before .before .before .before .if3 .taken) (c .before .before .before .before .before .before .before .before .before .before .before .before .scl .ensures) (c .before .before .before .before .before .before .before .before .before .before .before .line .ensures) _ _ _ _ _ _ _ (fall-ninth _ _ _ _ _ _ _ _ (c .before .before .before .before .before .before .before .before .before .before .if5 .taken) (c .before .before .before .before .before .before .before .before .before .if6 .left) (c .before .before .before .before .before .before .before .before .if10 .taken) (c .before .before .before .before .before .before .if11 .left) (c .before .before .before .before .before .if13 .left)) (ninth-ends s _ _ _ _ _ _ _ _ _ (_) (λ z. c .before .before .before .before .if18 .left (c .before .before .before .before .before .before .before .way-of .ensures ∙ z)) (subst (λ x. 3 ≤ x) (c .before .before .before .before .before .before .before .way-of .ensures) (c .before .before .if20 .left)) (c .before .if21 .taken)) (at .inv .0 .calms) (c .said10 .ensures), at .inv .1, at .inv .2, at .inv .3)
+    (turned g _ _ _ _ _ _ _ (fall-ninth _ _ _ _ _ _ _ _ (c .before .before .before .before .before .before .before .before .before .before .if5 .taken) (c .before .before .before .before .before .before .before .before .before .if6 .left) (c .before .before .before .before .before .before .before .before .if10 .taken) (c .before .before .before .before .before .before .if11 .left) (c .before .before .before .before .before .if13 .left)) (ninth-ends s _ _ _ _ _ _ _ _ _ (_) (λ z. c .before .before .before .before .if18 .left (c .before .before .before .before .before .before .before .way-of .ensures ∙ z)) (subst (λ x. 3 ≤ x) (c .before .before .before .before .before .before .before .way-of .ensures) (c .before .before .if20 .left)) (c .before .if21 .taken)) (g .stands .calms) (c .said10 .ensures), at .inv .1, at .inv .2, at .inv .3)
 
 fetched-requires : tie.Need-fetched-requires Inv-loop μ-loop
 fetched-requires c κs = search needs
@@ -362,9 +389,10 @@ loop-less-12 c = omega (arith, c .before .before .before .before .before .before
 
 loop-again-12 : tie.Need-loop-again-12 Inv-loop μ-loop
 loop-again-12 c =
+    let g = seen (c .before .before .before .before .before .before .before .before .before .before .before .before .before .before) in
     let at = c .before .before .before .before .before .before .before .before .before .before .before .before .before .before .before .before .before .before .before .before .before .before .loop in
     let s = c .before .before .before .before .before .before .before .before .before .before .before .before .before .before .before .before .before .before .before .before .before .before .before .before .before .before .before .before .before .before .before .before .before .before .before .before .before .before .before .before .before .before .before .before .args .s in
-    (rw (c .before .next-in-array .ensures, c .before .before .top2 .ensures, c .before .before .before .fetched .ensures, at .inv .2) (turned _ _ _ _ _ _ _ _ _ _ _ _ _ _ _ _ _ _ _ (at .inv .0) _ _ (c .before .before .before .before .before .before .before .before .before .before .before .before .before .before .before .before .before .before .before .before .before .loop-test .taken) (c .before .before .before .before .before .before .before .before .before .before .before .before .before .before .before .before .if4 .taken) (sym (c .before .before .before .before .before .before .before .before .before .before .before .before .before .before .before .before .before .before .vcc .ensures) ∙ c .before .before .before .before .before .before .before .before .before .before .before .before .before .before .before .before .before .if3 .taken) (c .before .before .before .before .before .before .before .before .before .before .before .before .before .before .before .scl .ensures) (c .before .before .before .before .before .before .before .before .before .before .before .before .before .before .line .ensures) _ _ _ _ _ _ _ (fall-ninth _ _ _ _ _ _ _ _ (c .before .before .before .before .before .before .before .before .before .before .before .before .before .if5 .taken) (c .before .before .before .before .before .before .before .before .before .before .before .before .if6 .left) (c .before .before .before .before .before .before .before .before .before .before .before .if10 .taken) (c .before .before .before .before .before .before .before .before .before .if11 .left) (c .before .before .before .before .before .before .before .before .if13 .left)) (ninth-fetches s _ _ _ _ _ _ _ _ _ (_) (λ z. c .before .before .before .before .before .before .before .if18 .left (c .before .before .before .before .before .before .before .before .before .before .way-of .ensures ∙ z)) (subst (λ x. 3 ≤ x) (c .before .before .before .before .before .before .before .before .before .before .way-of .ensures) (c .before .before .before .before .before .if20 .left)) (c .before .before .before .before .if21 .left)) (at .inv .0 .calms) (c .said11 .ensures ∙ ap (λ (b : Bool). orZero b 1 + c .before .before .before .before .before .before .before .before .before .before .before .before .before .before .before .before .before .before .before .before .before .before .before .before .before .base-of .result) (c .before .before .top2 .ensures ∙ ap highest (c .before .before .before .fetched .ensures)))), at .inv .1, at .inv .2, at .inv .3)
+    (rw (c .before .next-in-array .ensures, c .before .before .top2 .ensures, c .before .before .before .fetched .ensures, at .inv .2) (turned g _ _ _ _ _ _ _ (fall-ninth _ _ _ _ _ _ _ _ (c .before .before .before .before .before .before .before .before .before .before .before .before .before .if5 .taken) (c .before .before .before .before .before .before .before .before .before .before .before .before .if6 .left) (c .before .before .before .before .before .before .before .before .before .before .before .if10 .taken) (c .before .before .before .before .before .before .before .before .before .if11 .left) (c .before .before .before .before .before .before .before .before .if13 .left)) (ninth-fetches s _ _ _ _ _ _ _ _ _ (_) (λ z. c .before .before .before .before .before .before .before .if18 .left (c .before .before .before .before .before .before .before .before .before .before .way-of .ensures ∙ z)) (subst (λ x. 3 ≤ x) (c .before .before .before .before .before .before .before .before .before .before .way-of .ensures) (c .before .before .before .before .before .if20 .left)) (c .before .before .before .before .if21 .left)) (g .stands .calms) (c .said11 .ensures ∙ ap (λ (b : Bool). orZero b 1 + c .before .before .before .before .before .before .before .before .before .before .before .before .before .before .before .before .before .before .before .before .before .before .before .before .before .base-of .result) (c .before .before .top2 .ensures ∙ ap highest (c .before .before .before .fetched .ensures)))), at .inv .1, at .inv .2, at .inv .3)
 
 said-requires-12 : tie.Need-said-requires-12 Inv-loop μ-loop
 said-requires-12 c κs = c .before .before .before .before .before .before .before .before .before .before .before .loop .inv .0 .small
@@ -382,9 +410,10 @@ loop-less-13 c = omega (arith, c .before .before .before .before .before .before
 
 loop-again-13 : tie.Need-loop-again-13 Inv-loop μ-loop
 loop-again-13 c =
+    let g = seen (c .before .before .before .before) in
     let at = c .before .before .before .before .before .before .before .before .before .before .before .before .loop in
     let s = c .before .before .before .before .before .before .before .before .before .before .before .before .before .before .before .before .before .before .before .before .before .before .before .before .before .before .before .before .before .before .before .before .before .before .args .s in
-    (turned _ _ _ _ _ _ _ _ _ _ _ _ _ _ _ _ _ _ _ (at .inv .0) _ _ (c .before .before .before .before .before .before .before .before .before .before .before .loop-test .taken) (c .before .before .before .before .before .before .if4 .taken) (sym (c .before .before .before .before .before .before .before .before .vcc .ensures) ∙ c .before .before .before .before .before .before .before .if3 .taken) (c .before .before .before .before .before .scl .ensures) (c .before .before .before .before .line .ensures) _ _ _ _ _ _ _ (fall-none _ _ _ _ _ _ _ _ (c .before .before .before .if5 .taken) (c .before .before .if6 .left) (c .before .if10 .left)) (quiet-acts s _ _ _ _ _ _ _ _ _) (at .inv .0 .calms) (c .said12 .ensures), at .inv .1, at .inv .2, at .inv .3)
+    (turned g _ _ _ _ _ _ _ (fall-none _ _ _ _ _ _ _ _ (c .before .before .before .if5 .taken) (c .before .before .if6 .left) (c .before .if10 .left)) (quiet-acts s _ _ _ _ _ _ _ _ _) (g .stands .calms) (c .said12 .ensures), at .inv .1, at .inv .2, at .inv .3)
 
 either-holds-requires : tie.Need-either-holds-requires Inv-loop μ-loop
 either-holds-requires c κs = search needs
@@ -408,9 +437,10 @@ loop-less-14 c = omega (arith, c .before .before .before .before .before .before
 
 loop-again-14 : tie.Need-loop-again-14 Inv-loop μ-loop
 loop-again-14 c =
+    let g = seen (c .before .before .before .before) in
     let at = c .before .before .before .before .before .before .before .before .before .before .before .before .loop in
     let s = c .before .before .before .before .before .before .before .before .before .before .before .before .before .before .before .before .before .before .before .before .before .before .before .before .before .before .before .before .before .before .before .before .before .before .args .s in
-    (rw (c .before .pick .ensures, c .before .before .either-holds .ensures) (turned _ _ _ _ _ _ _ _ _ _ _ _ _ _ _ _ _ _ _ (at .inv .0) _ _ (c .before .before .before .before .before .before .before .before .before .before .before .loop-test .taken) (c .before .before .before .before .before .before .if4 .taken) (sym (c .before .before .before .before .before .before .before .before .vcc .ensures) ∙ c .before .before .before .before .before .before .before .if3 .taken) (c .before .before .before .before .before .scl .ensures) (c .before .before .before .before .line .ensures) _ _ _ _ _ _ _ (low-seen _ _ _ _ _ _ _ _ (c .before .before .before .if5 .left)) (quiet-acts s _ _ _ _ _ _ _ _ _) (at .inv .0 .calms) (c .said13 .ensures)), at .inv .1, at .inv .2, at .inv .3)
+    (rw (c .before .pick .ensures, c .before .before .either-holds .ensures) (turned g _ _ _ _ _ _ _ (low-seen _ _ _ _ _ _ _ _ (c .before .before .before .if5 .left)) (quiet-acts s _ _ _ _ _ _ _ _ _) (g .stands .calms) (c .said13 .ensures)), at .inv .1, at .inv .2, at .inv .3)
 
 stop-at-requires : tie.Need-stop-at-requires Inv-loop μ-loop
 stop-at-requires c κs = search needs
