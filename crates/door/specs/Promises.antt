@@ -8,7 +8,7 @@ use lib.Dec.{eqb}
 use lib.ListN.{length}
 use Rattle.refusals.specs.Refusals.{Verdict, accepted, refused, meant, judgedOf, powerOf}
 use Rattle.refusals.specs.declared.Reply.{Reply}
-use Rattle.twin.specs.Run.{Part}
+use Rattle.sample.specs.Run.{Part}
 use Rattle.twin.specs.Power.{poweredUp}
 use Rattle.twin.specs.Promises.{partAfter, rowAfter}
 use Rattle.image.specs.Promises.{imageOf, verdictOf, arrayAfter, writeVerdict, outAfter}

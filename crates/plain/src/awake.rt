@@ -203,6 +203,8 @@ pub fn pass(
                             continue;
                         }
                         if calm {
+                            room = rest;
+                            row[i] = rooms::said(true, base);
                             held = false;
                             bit = false;
                             bits = 0;
@@ -210,8 +212,6 @@ pub fn pass(
                             high = 0;
                             out = 0;
                             own = true;
-                            room = rest;
-                            row[i] = rooms::said(own, base);
                             i += 1;
                             if data {
                                 sda = true;

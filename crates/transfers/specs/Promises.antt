@@ -4,7 +4,7 @@ use mathlib.Core.List.{List}
 use mathlib.Core.Path.{_≡_}
 use lib.ListN.{length}
 use Rattle.part.specs.declared.state.State.{State}
-use Rattle.twin.specs.Run.{runOf}
+use Rattle.sample.specs.Run.{runOf}
 use Rattle.transfers.specs.Transfers.{placedAt, entriesOf, laidFrom}
 use Rattle.transfers.specs.declared.Entry.{Entry}
 use Rattle.transfers.specs.declared.Listed.{Listed}

@@ -11,7 +11,7 @@ use Rattle.part.specs.declared.state.State.{State}
 use Rattle.wire.specs.declared.Sign.{Sign}
 use Rattle.wire.specs.declared.Sign.the-variants as sign
 use Rattle.sample.specs.Sample.{seenOf}
-use Rattle.twin.specs.Run.{Part, partStep}
+use Rattle.sample.specs.Run.{Part, partStep}
 use Rattle.transfers.specs.declared.Entry.{Entry}
 use Rattle.transfers.specs.declared.Entry.the-variants.{Start, Stop, Byte, Ninth, CycleBegins, CycleEnds, ResetBegins, ResetEnds}
 

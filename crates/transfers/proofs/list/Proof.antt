@@ -6,8 +6,8 @@ use native.Mathlib.Omega.{arith}
 use native.Mathlib.Numerals.{add-one}
 use borrow.Author.Needs.{needs, scaled-fits}
 use lib.ListN.{length, drop, getD}
-use Rattle.twin.specs.Run.{Part, partStep, runOf}
-use Rattle.twin.proofs.Laws.{run-turn, stepped}
+use Rattle.sample.specs.Run.{Part, partStep, runOf}
+use Rattle.sample.proofs.Runs.{run-turn, stepped}
 use Rattle.transfers.specs.Transfers.{entriesOf, laidFrom}
 use Rattle.transfers.proofs.Laid.{row-turn, count-turn, list-done}
 use Rattle.transfers.proofs.list.Statement.{statement}
