@@ -1,124 +1,22 @@
 // Samples with VCC good and reset inactive in which no timer ends.
 use crate::Went;
+use crate::moves;
 use crate::rooms;
 use crate::tests;
 use part::cases;
 use part::kinds;
-use part::kinds::Kind;
-use part::lock;
 use part::page;
-use part::state::Control;
 use part::state::Frame;
 use part::state::Lines;
-use part::state::Load;
 use part::state::Phase;
-use part::state::Place;
 use part::state::State;
 use part::state::Talk;
-use part::state::Timers;
-use part::state::Watchdog;
-use part::state::Wire;
 use part::timers;
 use sample::answers;
 ghost use mathlib.Core.Path.{_≡_};
-ghost use mathlib.Core.Bool.{Bool, not};
-ghost use Prim.Native.Nat.{_≤_, _-_, _*_, _%_};
-ghost use lib.Dec.{ltb};
+ghost use Prim.Native.Nat.{_≤_};
 ghost use lib.ListN.{length};
-ghost use Rattle.part.specs.Cases.{both, either, highest};
-ghost use Rattle.part.specs.Lock.{lockedOf};
-ghost use Rattle.device.specs.Ends.{startPhase};
 ghost use Rattle.plain.specs.Goes.{Goes, partOf, movedOf};
-ghost use Rattle.plain.specs.Rooms.{timersAt};
-ghost use Rattle.plain.specs.Tests.{sameBy, pickBy};
-
-fn same(a: bool, b: bool) -> bool
-    ensures { λ r. ⌜ r ≡ sameBy a b ⌝ }
-{
-    if a {
-        return b;
-    }
-    !b
-}
-
-fn pick(test: bool, a: bool, b: bool) -> bool
-    ensures { λ r. ⌜ r ≡ pickBy test a b ⌝ }
-{
-    if test {
-        return a;
-    }
-    b
-}
-
-// The phase after a start.
-fn start_phase(write: u32) -> Phase
-    ensures { λ r. ⌜ r ≡ startPhase (ltb 0 write) ⌝ }
-{
-    if 0 < write {
-        return Phase::Silent;
-    }
-    Phase::Slave
-}
-
-// The byte being sent, one bit on.
-fn shifted(out: u8) -> u8
-    ensures { λ r. ⌜ r ≡ out * 2 % 256 ⌝ }
-{
-    ((out as u16) * 2 % 256) as u8
-}
-
-fn top(out: u8) -> bool
-    ensures { λ r. ⌜ r ≡ highest out ⌝ }
-{
-    out / 128 % 2 == 1
-}
-
-// Whether an array byte is taken.
-fn takes(kind: Kind, control: Control, place: Place) -> bool
-    ensures { λ r. ⌜ r ≡ both (control .wel) (not (lockedOf kind (control .stored) place)) ⌝ }
-{
-    if control.wel {
-        return !lock::locked(kind, control.stored, place);
-    }
-    false
-}
-
-fn stop_at(
-    s: State,
-    write: u32,
-    running: bool,
-    left: u32,
-    all: u32,
-    room: u32,
-    lines: Lines,
-    frame: Frame,
-    talk: Talk,
-    counter: Place,
-    load: Load,
-    at: usize,
-) -> Went
-    ensures { λ r. ⌜ r ≡ record { timers = timersAt (s .timers .hold) write running left (all - room); wire = record { lines = lines; frame = frame }; talk = talk; counter = counter; load = load; at = at } ⌝ }
-{
-    let times = s.timers;
-    let spent = timers::less(all, room);
-    Went {
-        timers: Timers {
-            write: timers::less(write, spent),
-            hold: times.hold,
-            reset: false,
-            low: false,
-            watchdog: Watchdog {
-                running,
-                left: rooms::left_of(running, left, spent),
-            },
-        },
-        wire: Wire { lines, frame },
-        talk,
-        counter,
-        load,
-        at,
-    }
-}
 
 // Stops where VCC is low or a timer would end, and before a sample that is not plain.
 pub fn pass(
@@ -196,7 +94,7 @@ pub fn pass(
                 let data = answers::line(level, own);
                 if scl {
                     if clock {
-                        if same(sda, data) {
+                        if moves::same(sda, data) {
                             room = rest;
                             row[i] = rooms::said(own, base);
                             i += 1;
@@ -222,7 +120,7 @@ pub fn pass(
                             write = timers::less(write, all - room);
                             running = dog.running;
                             left = dog.left;
-                            phase = start_phase(write);
+                            phase = moves::start_phase(write);
                             all = rooms::room_of(write, running, left);
                             room = all;
                             continue;
@@ -245,8 +143,8 @@ pub fn pass(
                                 continue;
                             }
                             high = 0;
-                            out = shifted(out);
-                            own = top(out);
+                            out = moves::shifted(out);
+                            own = moves::top(out);
                             row[i] = rooms::said(own, base);
                             i += 1;
                             continue;
@@ -281,7 +179,7 @@ pub fn pass(
                                 continue;
                             }
                             if way == 2 {
-                                if takes(kind, control, place) {
+                                if moves::takes(kind, control, place) {
                                     let index = (place.0 % 64) as usize;
                                     load.bytes[index] = v;
                                     load.marks[index] = true;
@@ -337,7 +235,7 @@ pub fn pass(
                             continue;
                         }
                         out = page::fetched(array, place);
-                        own = top(out);
+                        own = moves::top(out);
                         place = page::next_in_array(kind, place);
                         row[i] = rooms::said(own, base);
                         i += 1;
@@ -351,7 +249,7 @@ pub fn pass(
                     continue;
                 }
                 held = cases::either_holds(clock, held);
-                bit = pick(clock, data, bit);
+                bit = moves::pick(clock, data, bit);
                 scl = clock;
                 sda = data;
                 room = rest;
@@ -363,7 +261,7 @@ pub fn pass(
         }
         break;
     }
-    stop_at(
+    moves::stop_at(
         s,
         write,
         running,

@@ -3,6 +3,7 @@
 // sample is left to `sample::steps::step`.
 mod awake;
 mod dark;
+mod moves;
 mod rooms;
 mod tests;
 

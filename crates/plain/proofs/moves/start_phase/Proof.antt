@@ -1,7 +1,7 @@
--- `plain::awake::start_phase` meets its contract.
+-- `plain::moves::start_phase` meets its contract.
 use borrow.Author.Tests.{lt-ltb, le-ltb}
-use Rattle.plain.proofs.awake.start_phase.Statement.{statement}
-use Rattle.plain.proofs.awake.start_phase.Tie as tie
+use Rattle.plain.proofs.moves.start_phase.Statement.{statement}
+use Rattle.plain.proofs.moves.start_phase.Tie as tie
 
 returns : tie.Need-returns
 returns c = rw (lt-ltb _ _ (c .if1 .taken))

@@ -1,7 +1,7 @@
--- `plain::awake::takes` meets its contract.
+-- `plain::moves::takes` meets its contract.
 use borrow.Author.Needs.{needs}
-use Rattle.plain.proofs.awake.takes.Statement.{statement}
-use Rattle.plain.proofs.awake.takes.Tie as tie
+use Rattle.plain.proofs.moves.takes.Statement.{statement}
+use Rattle.plain.proofs.moves.takes.Tie as tie
 
 locked-requires : tie.Need-locked-requires
 locked-requires c κs = search needs
