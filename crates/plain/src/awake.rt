@@ -8,6 +8,7 @@ use part::kinds;
 use part::page;
 use part::state::Frame;
 use part::state::Lines;
+use part::state::PAGE;
 use part::state::Phase;
 use part::state::State;
 use part::state::Talk;
@@ -180,7 +181,7 @@ pub fn pass(
                             }
                             if way == 2 {
                                 if moves::takes(kind, control, place) {
-                                    let index = (place.0 % 64) as usize;
+                                    let index = (place.0 % PAGE) as usize;
                                     load.bytes[index] = v;
                                     load.marks[index] = true;
                                     calm = false;
