@@ -1,5 +1,5 @@
 -- The bench cases in one list (document 01, Bench cases). Those of captures are said of a part that has just been powered up, with select 0,
--- stored byte 00h and an array all FFh, WP low throughout: what it answers and heldReset after traffic that a replay accepts. Those of the lock are
+-- stored byte 00h and an array all FFh, WP low throughout: what it answers and holds after traffic that a replay accepts. Those of the lock are
 -- said of every kind of part. Those of images stand in ImageCases.
 use Prim.Native.Nat.{ℕ, _-_, _%_}
 use mathlib.Core.Bool.{Bool, true, false}
