@@ -4,7 +4,9 @@ names in the order in which they are to be run.
 
     stored_images.py FOLDER > names
 
-A name begins with what is to come of the text: `ok`, or the refusal number.
+A name begins with what is to come of the text: `ok`, or the refusal number. The texts stand in crates/tidy_cases/data, their names in
+crates/tidy_cases/args. What the program has to write, crates/tidy_cases/stdout, is made by the second reader and never by the
+program itself:  (cd crates/tidy_cases/data && ../../../tests/second/target/release/tidy_cases $(cat ../args)) > crates/tidy_cases/stdout
 """
 import pathlib
 import sys
