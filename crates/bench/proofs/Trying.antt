@@ -6,8 +6,8 @@ use mathlib.Core.Path.{_≡_, ap, sym, subst, _∙_}
 use lib.ListN.{length, replicate}
 use Rattle.part.specs.declared.state.State.{State}
 use Rattle.twin.specs.declared.replays.Replayed.{Replayed}
-use Rattle.refusals.specs.declared.Reply.the-variants.{Accepted, Refused}
-use Rattle.refusals.specs.Refusals.{Verdict, accepted, refused, meant}
+use Rattle.ground.specs.declared.Reply.the-variants.{Accepted, Refused}
+use Rattle.ground.specs.Verdict.{Verdict, accepted, refused, meant}
 use Rattle.twin.specs.Promises.{PowersUp}
 use Rattle.twin.specs.Power.{powerState, poweredUp}
 use Rattle.form.specs.declared.headers.Header.{Header}

@@ -2,9 +2,9 @@
 use Prim.Native.Nat.{ℕ, min}
 use mathlib.Core.List.{List, [], _∷_}
 use mathlib.Core.Path.{_≡_}
-use Rattle.part.specs.Cases.{orZero}
+use Rattle.ground.specs.Cases.{orZero}
 use Rattle.part.specs.declared.state.State.{State}
-use Rattle.refusals.specs.Refusals.{Verdict, accepted, refused}
+use Rattle.ground.specs.Verdict.{Verdict, accepted, refused}
 use Rattle.twin.specs.Promises.{ReadsRegister}
 use Rattle.form.specs.Words.{bytesOf}
 

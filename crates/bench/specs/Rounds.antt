@@ -4,7 +4,8 @@ use mathlib.Core.List.{List}
 use Rattle.part.specs.declared.state.State.{State}
 use Rattle.twin.specs.declared.replays.Replayed.{Replayed}
 use Rattle.sample.specs.Run.{Part}
-use Rattle.refusals.specs.Refusals.{Verdict, meant, judgedOf}
+use Rattle.ground.specs.Verdict.{Verdict, meant}
+use Rattle.refusals.specs.Refusals.{judgedOf}
 use Rattle.twin.specs.Promises.{partAfter, rowAfter}
 
 -- What a replay leaves: its verdict, the part, and the answer row.

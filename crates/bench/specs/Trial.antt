@@ -5,7 +5,8 @@ use mathlib.Core.List.{List}
 use mathlib.Core.Path.{_≡_}
 use lib.ListN.{length, replicate}
 use Rattle.part.specs.declared.state.State.{State}
-use Rattle.refusals.specs.Refusals.{Verdict, accepted, refused, powerOf}
+use Rattle.ground.specs.Verdict.{Verdict, accepted, refused}
+use Rattle.refusals.specs.Refusals.{powerOf}
 use Rattle.twin.specs.Power.{poweredUp}
 use Rattle.form.specs.declared.headers.Header.{Header}
 use Rattle.bench.specs.declared.trials.Tried.{Tried}

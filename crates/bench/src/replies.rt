@@ -4,8 +4,8 @@ use part::state::State;
 use twin::Reply;
 ghost use mathlib.Core.Path.{_≡_};
 ghost use Prim.Native.Nat.{min};
-ghost use Rattle.part.specs.Cases.{orZero};
-ghost use Rattle.refusals.specs.Refusals.{meant};
+ghost use Rattle.ground.specs.Cases.{orZero};
+ghost use Rattle.ground.specs.Verdict.{meant};
 ghost use Rattle.form.specs.Words.{bytesOf};
 ghost use Rattle.bench.specs.Reply.{openingOf, closingOf, Closes};
 
@@ -24,7 +24,7 @@ fn opening_words(reply: Reply) -> [u32; 2]
 {
     match reply {
         Reply::Accepted(count) => [0, capped(count)],
-        Reply::Refused(number, place) => [number as u32, capped(place)],
+        Reply::Refused { number, place } => [number as u32, capped(place)],
     }
 }
 

@@ -1,7 +1,7 @@
 -- The bench cases P1 to P11 under one claim: what a part that is powered up answers and holds after the traffic of each case, which places
 -- a block code locks, the image of the paper and the empty text. No axiom is used.
 use mathlib.Core.Path.{refl}
-use Rattle.part.specs.Kind.{kindOf}
+use Rattle.ground.specs.Kind.{kindOf}
 use Rattle.part.specs.Timers.{loadedOf, timedOf, suppliedOf}
 use Rattle.part.specs.Lock.{extentOf, lockedOf}
 use Rattle.part.specs.Page.{storeOf}

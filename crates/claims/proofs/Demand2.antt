@@ -10,13 +10,15 @@ use native.Mathlib.Omega.{arith}
 use lib.Dec.{eqb, leb}
 use lib.ListN.{length, getD, take, length-append}
 use borrow.Author.Tests.{eq-eqb, le-leb, eqb-true, leb-true}
-use Rattle.part.specs.Numbers.{mostElapsed, mostLevel, mostSamples}
-use Rattle.part.specs.Kind.{kindOf}
+use Rattle.ground.specs.Numbers.{mostElapsed, mostLevel, mostSamples}
+use Rattle.ground.specs.Kind.{kindOf}
 use Rattle.part.specs.declared.state.State.{State}
 use Rattle.sample.specs.Level.{answerOf}
-use Rattle.refusals.specs.Refusals.{Verdict, accepted, meant, sampleBy, samplesOf, judgedBy, judgedOf, inRange}
-use Rattle.refusals.specs.declared.Reply.the-variants.{Accepted}
-use Rattle.refusals.proofs.Laws.{apart, rows-equal}
+use Rattle.ground.specs.Verdict.{Verdict, accepted, meant}
+use Rattle.refusals.specs.Refusals.{sampleBy, samplesOf, judgedBy, judgedOf, inRange}
+use Rattle.ground.specs.declared.Reply.the-variants.{Accepted}
+use Rattle.ground.proofs.Verdicts.{apart}
+use Rattle.refusals.proofs.Laws.{rows-equal}
 use Rattle.twin.specs.declared.replays.Replayed.{Replayed}
 use Rattle.sample.specs.Run.{Part, partStep, runOf, answersOf}
 use Rattle.twin.specs.Promises.{Replays, Runs}
@@ -195,9 +197,9 @@ joined-judged s t es₁ ls₁ es₂ ls₂ array array₁ row row₁ row₂ n₁ 
     let l : length (ls₁ ++ ls₂) ≡ n₁ + n₂ = length-append ls₁ ls₂ ∙ omega arith in
     let v = accepted (n₁ + n₂) in
     let second = samples-through es₂ ls₂ 0 (length ls₂) n₂ v (omega arith) (y .samples) in
-    let both = samples-on es₁ ls₁ es₂ ls₂ 0 0 (length ls₁) n₁ v (omega arith) (x .samples) second in
+    let _&&_ = samples-on es₁ ls₁ es₂ ls₂ 0 0 (length ls₁) n₁ v (omega arith) (x .samples) second in
     let same = eq-eqb (n₁ + n₂) (n₁ + n₂) refl in
-    rw (e, l, a, x .state-good, x .array-good, same, le-leb (n₁ + n₂) mostSamples m, both)
+    rw (e, l, a, x .state-good, x .array-good, same, le-leb (n₁ + n₂) mostSamples m, _&&_)
 
 -- Two runs, the second from where the first left the part, are a run of the rows joined.
 runs-joined : (s t u : State) (es₁ ls₁ es₂ ls₂ array array₁ array₂ row row₁ row₂ said₁ said₂ : List ℕ)

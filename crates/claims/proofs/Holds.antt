@@ -8,10 +8,10 @@ use lib.Dec.{eqb, ltb}
 use lib.ListN.{getD, set, getD-replicate, List·getD-eq-default}
 use lib.Seq.{getD-set-other}
 use borrow.Author.Tests.{ltb-true, ltb-false, eqb-true, eqb-false}
-use Rattle.part.specs.Numbers.{pageSize}
-use Rattle.part.specs.Kind.{kindOf}
+use Rattle.ground.specs.Numbers.{pageSize}
+use Rattle.ground.specs.Kind.{kindOf}
 use Rattle.part.specs.Page.{pageOf, inPage, emptyLoad, marked}
-use Rattle.part.specs.declared.kinds.Kind.{Kind}
+use Rattle.ground.specs.declared.kinds.Kind.{Kind}
 use Rattle.part.specs.declared.state.Frame.{Frame}
 use Rattle.part.specs.declared.state.Phase.{Phase}
 use Rattle.part.specs.declared.state.Phase.the-variants.{Idle, Silent, Slave, High, Low, Data, Register, Send, SendRegister}
@@ -26,8 +26,7 @@ use Rattle.wire.specs.declared.Sign.the-variants.{Quiet, Start, Stop, Bit, Byte
 use Rattle.device.specs.Bytes.{takenOf, dataBy, byteIn, byteOf, keptBy, keptIn, keptOf, bitOf, ninthOf}
 use Rattle.device.proofs.Phases.{bit-stays, ninth-releases}
 use Rattle.sample.specs.Level.{sclOf, sdaOf, wpOf}
-use Rattle.sample.specs.Sample.{opensOf, resetOf, startOf, stopOf, byteStep, heardBy, lineOf, seenOf, wiredOf}
-use Rattle.sample.specs.Sample.{goesOnBy, stepOf}
+use Rattle.sample.specs.Sample.{opensOf, resetOf, startOf, stopOf, byteStep, heardBy, lineOf, seenOf, wiredOf, goesOnBy, stepOf}
 use Rattle.sample.specs.Run.{Part, partStep}
 use Rattle.claims.specs.Reachable.{Reachable, Holds}
 use Rattle.claims.proofs.Kept.Steps.{Sits, low-line}

@@ -10,8 +10,8 @@ use lib.Dec.{eqb, leb}
 use lib.ListN.{length, take, drop}
 use lib.Seq.{take-at}
 use borrow.Author.Tests.{eqb-true, eq-eqb}
-use Rattle.refusals.specs.Refusals.{accepted, meant}
-use Rattle.refusals.specs.declared.Reply.{Reply}
+use Rattle.ground.specs.Verdict.{accepted, meant}
+use Rattle.ground.specs.declared.Reply.{Reply}
 use Rattle.image.specs.Form.{imageSize}
 use Rattle.image.specs.Reading.{taken}
 use Rattle.image.specs.Writing.{imageText, lengthOf, mostLength}

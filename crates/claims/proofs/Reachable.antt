@@ -7,15 +7,16 @@ use native.Mathlib.Omega.{arith}
 use lib.Dec.{leb, ltb}
 use lib.ListN.{length, length-append}
 use borrow.Author.Tests.{lt-ltb, ltb-true}
-use Rattle.part.specs.Numbers.{mostSelect, mostBits}
-use Rattle.part.specs.Cases.{highest}
-use Rattle.part.specs.Kind.{kindOf, known}
+use Rattle.ground.specs.Numbers.{mostSelect, mostBits}
+use Rattle.ground.specs.Cases.{highest}
+use Rattle.ground.specs.Kind.{kindOf, known}
 use Rattle.part.specs.Page.{at, marked}
 use Rattle.part.specs.declared.state.Phase.the-variants.{Idle}
 use Rattle.part.specs.declared.state.State.{State}
-use Rattle.part.proofs.Laws.{both-split}
-use Rattle.part.proofs.Known.{kind-sound}
-use Rattle.refusals.specs.Refusals.{accepted, storable, powerBy, powerOf, inRange}
+use Rattle.ground.proofs.Tests.{and-split}
+use Rattle.ground.proofs.Known.{kind-sound}
+use Rattle.ground.specs.Verdict.{accepted}
+use Rattle.refusals.specs.Refusals.{storable, powerBy, powerOf, inRange}
 use Rattle.sample.specs.Run.{Part, partStep, runOf}
 use Rattle.twin.specs.Power.{poweredUp}
 use Rattle.claims.specs.Reachable.{atPower, Reachable, speaks, sendsNow, Lowers, acknowledges, sendsZero, Keeps}
@@ -88,7 +89,7 @@ sends-now s a b = rw (a, lt-ltb (s .wire .frame .bits) mostBits b)
 now-sends : (s : State) → sendsNow s ≡ true
     → (speaks (s .device .talk .phase) ≡ true) × (s .wire .frame .bits < mostBits)
 now-sends s e =
-    let t = both-split (speaks (s .device .talk .phase)) (ltb (s .wire .frame .bits) mostBits) e in
+    let t = and-split (speaks (s .device .talk .phase)) (ltb (s .wire .frame .bits) mostBits) e in
     (t .0, ltb-true (s .wire .frame .bits) mostBits (t .1))
 
 -- Own SDA low has its reason.

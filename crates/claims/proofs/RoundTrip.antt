@@ -11,7 +11,7 @@ use mathlib.Core.Bool.{true}
 use mathlib.Core.List.{List}
 use mathlib.Core.Path.{_≡_, refl, subst}
 use native.Mathlib.Omega.{arith}
-use Rattle.part.specs.Kind.{kindOf}
+use Rattle.ground.specs.Kind.{kindOf}
 use Rattle.image.specs.Form.{imageSize, rowSize, mostText}
 use Rattle.image.specs.Writing.{imageText, rowLength, endLength}
 use Rattle.claims.specs.RoundTrip.{Rows, fixedForm, imageRows, Takes, Writers, Fixed, RoundTrip}

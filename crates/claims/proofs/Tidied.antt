@@ -10,7 +10,7 @@ use lib.Dec.{leb}
 use lib.ListN.{length, take, length-take}
 use lib.Seq.{take-all}
 use borrow.Author.Tests.{leb-true, leb-false, lt-leb}
-use Rattle.part.specs.Kind.{kindOf}
+use Rattle.ground.specs.Kind.{kindOf}
 use Rattle.image.specs.Form.{imageSize, mostText}
 use Rattle.image.specs.Reading.{readingOf}
 use Rattle.image.specs.Writing.{imageText}

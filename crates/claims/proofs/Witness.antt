@@ -4,8 +4,8 @@ use mathlib.Core.List.{List}
 use mathlib.Core.Path.{refl, sym, _∙_}
 use lib.ListN.{set, replicate, length-set}
 use lib.Seq.{getD-set-other}
-use Rattle.part.specs.Kind.{kindOf}
-use Rattle.part.specs.Numbers.{smallSize}
+use Rattle.ground.specs.Kind.{kindOf}
+use Rattle.ground.specs.Numbers.{smallSize}
 use Rattle.part.specs.Timers.{loadedOf, timedOf, suppliedOf}
 use Rattle.part.specs.Lock.{extentOf, lockedOf}
 use Rattle.part.specs.Page.{storeOf}

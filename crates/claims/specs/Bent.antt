@@ -1,13 +1,13 @@
 -- Demand 3 in a form that computes, with the step as a parameter, and three steps that bend one rule each. Where an unequal
 -- bit is reached and the address covered is always said by the sheet's rules (demand 3; document 01, Bytes on the wire).
 use Prim.Native.Nat.{ℕ, zero, suc, _+_, _-_, _*_, _/_, _%_, _^_}
-use mathlib.Core.Bool.{Bool, true, false}
+use mathlib.Core.Bool.{Bool, true, false, _&&_}
 use mathlib.Core.List.{List, [], _∷_}
 use lib.Dec.{eqb}
 use lib.ListN.{take}
-use Rattle.part.specs.Cases.{both, odd}
-use Rattle.part.specs.Kind.{kindOf}
-use Rattle.part.specs.Numbers.{mostBits, byteValues}
+use Rattle.ground.specs.Cases.{odd}
+use Rattle.ground.specs.Kind.{kindOf}
+use Rattle.ground.specs.Numbers.{mostBits, byteValues}
 use Rattle.part.specs.Page.{at, byteAt}
 use Rattle.part.specs.declared.state.Load.{Load}
 use Rattle.part.specs.declared.state.Phase.the-variants.{Send}
@@ -57,16 +57,12 @@ alike xs ys = sameWhen (firstDiff 0 xs ys) never
 abbrev pub coveredUnder : When → Step → List ℕ → List ℕ → Part → Part → Bool
 coveredUnder never step es ls p q = true
 coveredUnder (sample k) step es ls p q =
-    both
-    (alike (arrayUnder step (take (suc k) es) (take (suc k) ls) p) (arrayUnder step (take (suc k) es) (take (suc k) ls) q))
-    (alike (answersUnder step es ls p) (answersUnder step es ls q))
+    alike (arrayUnder step (take (suc k) es) (take (suc k) ls) p) (arrayUnder step (take (suc k) es) (take (suc k) ls) q) && alike (answersUnder step es ls p) (answersUnder step es ls q)
 
 -- Of demand 3 only what can be told from answers and arrays: where the answers first differ, and what a covering write makes alike.
 abbrev pub holdsFor : Step → ℕ → List ℕ → List ℕ → Part → Part → Bool
 holdsFor step a es ls p q =
-    both
-    (sameWhen (diffUnder step es ls p q) (firstReach a 0 es ls p q nothing nothing))
-    (coveredUnder (firstCover a 0 es ls p) step es ls p q)
+    sameWhen (diffUnder step es ls p q) (firstReach a 0 es ls p q nothing nothing) && coveredUnder (firstCover a 0 es ls p) step es ls p q
 
 -- The part with another talk.
 abbrev pub withTalkOf : Part → Talk → Part

@@ -7,11 +7,12 @@ use mathlib.Core.List.{List, [], _∷_, _++_}
 use mathlib.Core.Path.{_≡_}
 use lib.ListN.{length, drop}
 use mathlib.Core.Bool.{false}
-use Rattle.part.specs.Kind.{known}
-use Rattle.part.specs.Numbers.{x4323}
+use Rattle.ground.specs.Kind.{known}
+use Rattle.ground.specs.Numbers.{x4323}
 use Rattle.part.specs.declared.state.State.{State}
-use Rattle.refusals.specs.Refusals.{accepted, refused, meant, powerOf, judgedOf}
-use Rattle.refusals.specs.declared.Reply.{Reply}
+use Rattle.ground.specs.Verdict.{accepted, refused, meant}
+use Rattle.refusals.specs.Refusals.{powerOf, judgedOf}
+use Rattle.ground.specs.declared.Reply.{Reply}
 use Rattle.twin.specs.declared.replays.Replayed.{Replayed}
 use Rattle.twin.specs.declared.power.Size.{Size}
 use Rattle.twin.specs.Power.{poweredUp, sizeMeant}

@@ -9,11 +9,12 @@ use Prim.Native.Nat.{ℕ, _+_, _<_, _≤_}
 use mathlib.Core.List.{List, _++_}
 use mathlib.Core.Path.{_≡_}
 use lib.ListN.{length, getD, take}
-use Rattle.part.specs.Numbers.{mostSamples}
+use Rattle.ground.specs.Numbers.{mostSamples}
 use Rattle.part.specs.declared.state.State.{State}
 use Rattle.sample.specs.Level.{answerOf}
-use Rattle.refusals.specs.Refusals.{accepted, judgedOf}
-use Rattle.refusals.specs.declared.Reply.the-variants.{Accepted}
+use Rattle.ground.specs.Verdict.{accepted}
+use Rattle.refusals.specs.Refusals.{judgedOf}
+use Rattle.ground.specs.declared.Reply.the-variants.{Accepted}
 use Rattle.twin.specs.declared.replays.Replayed.{Replayed}
 use Rattle.sample.specs.Run.{Part, runOf, answersOf}
 use Rattle.twin.specs.Promises.{Replays, Runs}

@@ -7,13 +7,12 @@
 -- sample on. The bit said to be out is the SDA level that the part gives, and a byte that no write covers stays. A byte
 -- fetched before the samples belongs to the state, and is the same in both.
 use Prim.Native.Nat.{ℕ, suc, _+_, _/_, _%_, _<_}
-use mathlib.Core.Bool.{Bool, true, false, not}
+use mathlib.Core.Bool.{Bool, true, false, not, _&&_}
 use mathlib.Core.List.{List, [], _∷_}
 use mathlib.Core.Path.{_≡_}
 use lib.Dec.{eqb}
 use lib.ListN.{length, getD, take}
-use Rattle.part.specs.Numbers.{pageSize}
-use Rattle.part.specs.Cases.{both}
+use Rattle.ground.specs.Numbers.{pageSize}
 use Rattle.part.specs.Page.{pageOf, at, inPage}
 use Rattle.part.specs.declared.state.State.{State}
 use Rattle.wire.specs.declared.Sign.{Sign}
@@ -42,7 +41,7 @@ abbrev pub reaches : ℕ → Sent → Sent → Bool
 reaches a nothing h = false
 reaches a (sends b v m) nothing = false
 reaches a (sends b v m) (sends c w n) =
-    both (both (eqb b a) (eqb c a)) (both (eqb m n) (not (sameBit (bitFrom m v) (bitFrom n w))))
+    (eqb b a && eqb c a) && (eqb m n && not (sameBit (bitFrom m v) (bitFrom n w)))
 
 -- The first sample after which a sending of a byte fetched from the address has reached an unequal bit (demand 3).
 abbrev pub firstReach : ℕ → ℕ → List ℕ → List ℕ → Part → Part → Sent → Sent → When
@@ -74,7 +73,7 @@ abbrev pub coversBy : Bool → Sign → ℕ → State → Bool
 coversBy true sign a s = false
 coversBy false Quiet a s = false
 coversBy false Start a s = false
-coversBy false (Stop n) a s = both (eqb (pageOf (at a)) (pageOf (s .device .counter))) (getD (s .load .marks) (inPage (at a)) false)
+coversBy false (Stop n) a s = eqb (pageOf (at a)) (pageOf (s .device .counter)) && getD (s .load .marks) (inPage (at a)) false
 coversBy false Bit a s = false
 coversBy false (Byte v) a s = false
 coversBy false (Ninth b) a s = false
@@ -101,7 +100,7 @@ firstCover a i (e ∷ es) (l ∷ ls) p =
 abbrev pub coversNone : ℕ → List ℕ → List ℕ → Part → Bool
 coversNone a [] ls p = true
 coversNone a (e ∷ es) [] p = true
-coversNone a (e ∷ es) (l ∷ ls) p = both (not (covers a e l p)) (coversNone a es ls (partStep e l p))
+coversNone a (e ∷ es) (l ∷ ls) p = not (covers a e l p) && coversNone a es ls (partStep e l p)
 
 -- Two arrays of one length that are equal but for one address (demand 3).
 pub record EqualBut (a : ℕ) (xs ys : List ℕ) : Type 0 where

@@ -5,8 +5,8 @@ use Prim.Native.String.{String, [] as ended, _∷_ as _before_}
 use mathlib.Core.List.{List, [], _∷_, _++_}
 use mathlib.Core.Path.{_≡_}
 use lib.ListN.{length, drop, replicate, set}
-use Rattle.refusals.specs.Refusals.{accepted, refused, meant}
-use Rattle.refusals.specs.declared.Reply.{Reply}
+use Rattle.ground.specs.Verdict.{accepted, refused, meant}
+use Rattle.ground.specs.declared.Reply.{Reply}
 use Rattle.image.specs.Form.{imageSize}
 use Rattle.image.specs.Reading.{taken, bad, readingOf}
 use Rattle.image.specs.Writing.{imageText}

@@ -6,8 +6,9 @@ use mathlib.Core.Bool.{Bool, true, false}
 use mathlib.Core.List.{List, [], _∷_, _++_}
 use mathlib.Core.Path.{_≡_}
 use lib.ListN.{length, take, set, replicate}
-use Rattle.part.specs.Numbers.{x4323, smallSize, writeTime}
-use Rattle.refusals.specs.Refusals.{accepted, judgedOf}
+use Rattle.ground.specs.Numbers.{x4323, smallSize, writeTime}
+use Rattle.ground.specs.Verdict.{accepted}
+use Rattle.refusals.specs.Refusals.{judgedOf}
 use Rattle.sample.specs.Run.{Part, partStep, runOf, answersOf}
 use Rattle.twin.specs.Power.{poweredUp}
 use Rattle.claims.specs.Sending.{nothing}

@@ -6,7 +6,7 @@ use Prim.Native.Nat.{ℕ}
 use mathlib.Core.List.{List}
 use mathlib.Core.Path.{_≡_}
 use Rattle.part.specs.declared.state.State.{State}
-use Rattle.refusals.specs.declared.Reply.{Reply}
+use Rattle.ground.specs.declared.Reply.{Reply}
 use Rattle.twin.specs.declared.replays.Replayed.{Replayed}
 use Rattle.twin.specs.Promises.{PowersUp, Replays, ReadsRegister, SizesPart}
 use Rattle.image.specs.Promises.{ReadsImage, WritesImage}

@@ -6,24 +6,25 @@
 -- a byte for the control register only while that is addressed, and never beside them. What the ranges of refusal 4 ask
 -- of a state holds after every sample.
 use Prim.Native.Nat.{ℕ}
-use mathlib.Core.Bool.{Bool, true, false}
+use mathlib.Core.Bool.{Bool, true, false, _&&_}
 use mathlib.Core.List.{List}
 use mathlib.Core.Path.{_≡_}
 use lib.Dec.{ltb}
 use lib.ListN.{length, getD}
-use Rattle.part.specs.Numbers.{pageSize, mostBits}
-use Rattle.part.specs.Cases.{both, highest}
-use Rattle.part.specs.Kind.{kindOf}
+use Rattle.ground.specs.Numbers.{pageSize, mostBits}
+use Rattle.ground.specs.Cases.{highest}
+use Rattle.ground.specs.Kind.{kindOf}
 use Rattle.part.specs.Lock.{lockedOf}
 use Rattle.part.specs.Page.{pageOf, inPage, emptyLoad, marked}
-use Rattle.part.specs.declared.kinds.Kind.{Kind}
+use Rattle.ground.specs.declared.kinds.Kind.{Kind}
 use Rattle.part.specs.declared.state.Phase.{Phase}
 use Rattle.part.specs.declared.state.Phase.the-variants.{Idle, Silent, Slave, High, Low, Data, Register, Send, SendRegister}
 use Rattle.part.specs.declared.state.Device.{Device}
 use Rattle.part.specs.declared.state.Load.{Load}
 use Rattle.part.specs.declared.state.State.{State}
 use Rattle.wire.specs.declared.Sign.the-variants.{Start, Stop}
-use Rattle.refusals.specs.Refusals.{accepted, powerOf, inRange}
+use Rattle.ground.specs.Verdict.{accepted}
+use Rattle.refusals.specs.Refusals.{powerOf, inRange}
 use Rattle.sample.specs.Sample.{opensOf, seenOf}
 use Rattle.sample.specs.Run.{Part, partStep, runOf}
 use Rattle.twin.specs.Power.{poweredUp}
@@ -72,7 +73,7 @@ speaks SendRegister = true
 
 -- A byte is being sent: a read, from a ninth fall to the eighth after it (Bytes on the wire, read).
 abbrev pub sendsNow : State → Bool
-sendsNow s = both (speaks (s .device .talk .phase)) (ltb (s .wire .frame .bits) mostBits)
+sendsNow s = speaks (s .device .talk .phase) && ltb (s .wire .frame .bits) mostBits
 
 -- What a set mark says: data comes in, WEL is set, the counter's page is not locked (Bytes on the wire, array data).
 pub record Loading (k : Kind) (d : Device) : Type 0 where

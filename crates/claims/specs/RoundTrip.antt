@@ -2,15 +2,14 @@
 -- the writer makes of the array that it gives; and these are all of the writer's texts. It is said of arrays of n 16-byte rows whose longest
 -- text, 44 n + 12, is not so long that 11 refuses it (demand 2; document 01, Image files).
 use Prim.Native.Nat.{ℕ, _+_, _*_, _-_, _/_, _%_, _≤_}
-use mathlib.Core.Bool.{Bool, true, false, not}
+use mathlib.Core.Bool.{Bool, true, false, not, _&&_}
 use mathlib.Core.List.{List, [], _∷_}
 use mathlib.Core.Path.{_≡_}
 use lib.Dec.{eqb, leb, ltb}
 use lib.ListN.{length, getD, take}
-use Rattle.part.specs.Cases.{both}
-use Rattle.part.specs.Numbers.{byteValues}
-use Rattle.refusals.specs.Refusals.{accepted, meant}
-use Rattle.refusals.specs.declared.Reply.{Reply}
+use Rattle.ground.specs.Numbers.{byteValues}
+use Rattle.ground.specs.Verdict.{accepted, meant}
+use Rattle.ground.specs.declared.Reply.{Reply}
 use Rattle.hexfile.specs.Lines.{lineFeed, carriageReturn, linesOf}
 use Rattle.hexfile.specs.Cells.{blankOf}
 use Rattle.image.specs.Form.{imageSize, mostText, rowSize, dataType, endType, bytesOf, countOf, addressOf, typeOf, dataOf}
@@ -21,7 +20,7 @@ use Rattle.tidying.specs.Shown.{shownOf}
 -- Whether a test holds of every number of a list: a word for the definitions below.
 abbrev pub all : (ℕ → Bool) → List ℕ → Bool
 all t [] = true
-all t (x ∷ xs) = both (t x) (all t xs)
+all t (x ∷ xs) = t x && all t xs
 
 -- Whether every number of a list is a byte (The part on our bench, the array).
 abbrev pub allBytes : List ℕ → Bool
@@ -43,20 +42,17 @@ endsInFeed text = eqb (getD text (length text - 1) 0) lineFeed
 -- A record of one row, at a multiple of 16 no lower than an address, not all FFh (Image files, the writer).
 abbrev pub rowRecord : ℕ → List ℕ → Bool
 rowRecord from bs =
-    both (eqb (countOf bs) rowSize)
-    (both (eqb (addressOf bs % rowSize) 0)
-    (both (leb from (addressOf bs))
-    (not (blankOf (dataOf bs)))))
+    eqb (countOf bs) rowSize && (eqb (addressOf bs % rowSize) 0 && (leb from (addressOf bs) && not (blankOf (dataOf bs))))
 
 -- Row records, ascending, then the end record and nothing more (Image files, the writer).
 abbrev pub fixedLines : ℕ → List (List ℕ) → Bool
 fixedLines from [] = false
 fixedLines from (l ∷ []) = eqb (typeOf (bytesOf l)) endType
-fixedLines from (l ∷ m ∷ ls) = both (rowRecord from (bytesOf l)) (fixedLines (addressOf (bytesOf l) + rowSize) (m ∷ ls))
+fixedLines from (l ∷ m ∷ ls) = rowRecord from (bytesOf l) && fixedLines (addressOf (bytesOf l) + rowSize) (m ∷ ls)
 
 -- Of an accepted text: line feeds only, row records ascending, then the end record (Image files, the writer).
 unfoldable pub fixedForm : List ℕ → Bool
-fixedForm text = both (noReturn text) (both (endsInFeed text) (fixedLines 0 (linesOf text)))
+fixedForm text = noReturn text && (endsInFeed text && fixedLines 0 (linesOf text))
 
 -- A text is accepted for an array of so many rows, and gives it (Refusal numbers, 11 to 18).
 abbrev pub Takes : ℕ → List ℕ → List ℕ → Type 0

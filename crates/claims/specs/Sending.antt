@@ -1,9 +1,9 @@
 -- What is being sent, beside a run: the byte that was fetched within the given samples, and which bit of it is out
 -- (document 01, Bytes on the wire, read; State and time, a byte being sent; demand 3).
 use Prim.Native.Nat.{ℕ, _+_, _-_, _/_, _^_}
-use mathlib.Core.Bool.{Bool, true, false, not}
+use mathlib.Core.Bool.{Bool, true, false, not, _&&_}
 use mathlib.Core.List.{List}
-use Rattle.part.specs.Cases.{both, odd}
+use Rattle.ground.specs.Cases.{odd}
 use Rattle.part.specs.Page.{byteAt}
 use Rattle.part.specs.declared.state.Phase.{Phase}
 use Rattle.part.specs.declared.state.Phase.the-variants.{Idle, Silent, Slave, High, Low, Data, Register, Send, SendRegister}
@@ -48,7 +48,7 @@ sentBy Start array d g = nothing
 sentBy (Stop n) array d g = nothing
 sentBy Bit array d g = nextSent g
 sentBy (Byte v) array d g = nothing
-sentBy (Ninth b) array d g = fetchedBy (both (sendsArray (d .talk .phase)) (not b)) array d
+sentBy (Ninth b) array d g = fetchedBy (sendsArray (d .talk .phase) && not b) array d
 
 -- While reset is active talk ends (State and time, 3).
 abbrev pub heardSent : Bool → Sign → List ℕ → Device → Sent → Sent

@@ -4,8 +4,8 @@ use Prim.Native.Nat.{ℕ, zero, suc, _+_, _/_, _%_, _^_}
 use mathlib.Core.Bool.{Bool, true, false}
 use mathlib.Core.List.{List, [], _∷_, _++_}
 use lib.ListN.{length, drop, replicate}
-use Rattle.part.specs.Cases.{orZero, odd}
-use Rattle.part.specs.Numbers.{mostElapsed, mostBits, byteValues, registerAddress}
+use Rattle.ground.specs.Cases.{orZero, odd}
+use Rattle.ground.specs.Numbers.{mostElapsed, mostBits, byteValues, registerAddress}
 
 -- Two rows of equal length: elapsed times and level bytes (What goes in and what comes out).
 pub record Capture : Type 0 where

@@ -1,8 +1,8 @@
 -- The control register (document 01, Control register).
 use Prim.Native.Nat.{ℕ, _+_, _*_, _/_, _%_}
-use mathlib.Core.Bool.{Bool, true, false}
+use mathlib.Core.Bool.{Bool, true, false, _&&_, _||_}
 use lib.Dec.{eqb}
-use Rattle.part.specs.Cases.{both, either, orZero, odd, highest, middle}
+use Rattle.ground.specs.Cases.{orZero, odd, highest, middle}
 use Rattle.part.specs.declared.state.Control.{Control}
 use Rattle.control.specs.declared.Order.{Order}
 use Rattle.control.specs.declared.Order.the-variants.{SetWel, ClearWel, SetRwel, Take, Nothing}
@@ -14,7 +14,7 @@ plainOf v = v / 8 * 8 + v % 2
 -- The register as it reads: the stored bits, RWEL as bit 2, WEL as bit 1 (Control register, bits 7 to 0).
 abbrev pub readsOf : Control → ℕ
 readsOf c =
-    plainOf (c .stored) + orZero (either (c .rwel) (odd (c .stored / 4))) 4 + orZero (either (c .wel) (odd (c .stored / 2))) 2
+    plainOf (c .stored) + orZero (c .rwel || odd (c .stored / 4)) 4 + orZero (c .wel || odd (c .stored / 2)) 2
 
 -- Bits 2 and 1 of a byte are 0 and 1 (Control register, RWEL high).
 abbrev pub third : ℕ → Bool
@@ -22,7 +22,7 @@ third v = eqb (middle v) 1
 
 -- WP and WPEN are both high (Control register, RWEL high).
 abbrev pub guarded : Bool → Control → Bool
-guarded wp c = both wp (highest (c .stored))
+guarded wp c = wp && highest (c .stored)
 
 -- With RWEL low: is the byte 02h, 00h, 06h, and is WEL set (Control register, RWEL low).
 abbrev pub lowOrder : Bool → Bool → Bool → Bool → Order

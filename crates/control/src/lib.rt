@@ -1,5 +1,5 @@
 // The control register: how it reads, and what a register byte orders at a stop.
-use part::cases;
+use ground::cases;
 use part::state::Control;
 ghost use mathlib.Core.Path.{_≡_};
 ghost use mathlib.Core.Bool.{Bool, true, false};
@@ -27,8 +27,8 @@ pub fn reads(c: Control) -> u8
     ensures { λ r. ⌜ r ≡ readsOf c ⌝ }
 {
     let stored = c.stored;
-    let rwel = cases::either_holds(c.rwel, stored / 4 % 2 == 1);
-    let wel = cases::either_holds(c.wel, stored / 2 % 2 == 1);
+    let rwel = c.rwel | (stored / 4 % 2 == 1);
+    let wel = c.wel | (stored / 2 % 2 == 1);
     let high = cases::worth(rwel, 4);
     let low = cases::worth(wel, 2);
     plain(stored) + high + low
@@ -52,11 +52,8 @@ pub fn order_of(wp: bool, c: Control) -> Order
     if c.pending {
         if c.rwel {
             if v / 2 % 4 == 1 {
-                if wp {
-                    if c.stored / 128 % 2 == 1 {
-                        return Order::Nothing;
-                    }
-                    return Order::Take;
+                if wp & (c.stored / 128 % 2 == 1) {
+                    return Order::Nothing;
                 }
                 return Order::Take;
             }

@@ -4,14 +4,13 @@ use mathlib.Core.Bool.{Bool, true, false}
 use mathlib.Core.List.{List}
 use mathlib.Core.Path.{_≡_, refl, ap, sym}
 use native.Mathlib.Omega.{arith}
-use Rattle.part.specs.declared.kinds.Kind.{Kind}
+use Rattle.ground.specs.declared.kinds.Kind.{Kind}
 use Rattle.part.specs.declared.state.Phase.{Phase}
 use Rattle.part.specs.declared.state.Phase.the-variants.{Idle, Silent, Slave, High, Low, Data, Register, Send, SendRegister}
 use Rattle.part.specs.declared.state.Device.{Device}
 use Rattle.part.specs.declared.state.Load.{Load}
 use Rattle.device.specs.Talk.{withTalk, released, rested}
-use Rattle.device.specs.Bytes.{slaveOf, highOf, lowOf, takenOf, dataBy, registerBy, registerSent, byteIn, byteOf}
-use Rattle.device.specs.Bytes.{keptBy, keptIn, keptOf, nextBit, bitIn, bitOf, fetchRegister, answeredBy, ninthIn, ninthOf}
+use Rattle.device.specs.Bytes.{slaveOf, highOf, lowOf, takenOf, dataBy, registerBy, registerSent, byteIn, byteOf, keptBy, keptIn, keptOf, nextBit, bitIn, bitOf, fetchRegister, answeredBy, ninthIn, ninthOf}
 
 -- The five phases in which a byte is heard.
 abbrev pub hears : Phase → Bool

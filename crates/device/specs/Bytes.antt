@@ -1,13 +1,13 @@
 -- What a bit, a byte and a ninth bit do, phase by phase (document 01, Bytes on the wire; Control register).
 use Prim.Native.Nat.{ℕ, _*_, _%_}
-use mathlib.Core.Bool.{Bool, true, false, not}
+use mathlib.Core.Bool.{Bool, true, false, not, _&&_}
 use mathlib.Core.List.{List}
 use lib.Dec.{eqb}
-use Rattle.part.specs.Numbers.{registerAddress, byteValues}
-use Rattle.part.specs.Cases.{both, odd}
+use Rattle.ground.specs.Numbers.{registerAddress, byteValues}
+use Rattle.ground.specs.Cases.{odd}
 use Rattle.part.specs.Lock.{lockedOf}
 use Rattle.part.specs.Page.{placeOf, nextInPage, nextInArray, byteAt, filledOf}
-use Rattle.part.specs.declared.kinds.Kind.{Kind}
+use Rattle.ground.specs.declared.kinds.Kind.{Kind}
 use Rattle.part.specs.declared.state.BusAddress.{BusAddress}
 use Rattle.part.specs.declared.state.Phase.{Phase}
 use Rattle.part.specs.declared.state.Phase.the-variants.{Idle, Silent, Slave, High, Low, Data, Register, Send, SendRegister}
@@ -42,7 +42,7 @@ lowOf k d v = addressBy (eqb (addressOf (d .talk .high) v .0) registerAddress) k
 
 -- Whether an array byte is taken: WEL set and the counter in no locked block (Bytes on the wire, array data).
 unfoldable pub takenOf : Kind → Device → Bool
-takenOf k d = both (d .control .wel) (not (lockedOf k (d .control .stored) (d .counter)))
+takenOf k d = d .control .wel && not (lockedOf k (d .control .stored) (d .counter))
 
 -- An array byte: taken, it is acknowledged and the counter steps; not taken, silence, RWEL staying (Bytes on the wire).
 abbrev pub dataBy : Bool → Device → Device

@@ -1,9 +1,9 @@
 -- What the tables of `Bytes` and `Ends` are made of (document 01, Bytes on the wire; Control register).
 use Prim.Native.Nat.{ℕ, _+_, _*_, _/_}
-use mathlib.Core.Bool.{Bool, true, false}
+use mathlib.Core.Bool.{Bool, true, false, _&&_}
 use lib.Dec.{eqb}
-use Rattle.part.specs.Numbers.{byteValues, slaveCode}
-use Rattle.part.specs.Cases.{both, highest, middle}
+use Rattle.ground.specs.Numbers.{byteValues, slaveCode}
+use Rattle.ground.specs.Cases.{highest, middle}
 use Rattle.part.specs.declared.state.Phase.{Phase}
 use Rattle.part.specs.declared.state.BusAddress.{BusAddress}
 use Rattle.part.specs.declared.state.Talk.{Talk}
@@ -52,4 +52,4 @@ addressOf high low = record { 0 = high * byteValues + low }
 
 -- A slave byte of 1010, 0 and the part's select (Bytes on the wire, after a start).
 abbrev pub matches : ℕ → ℕ → Bool
-matches select v = both (eqb (v / 8) slaveCode) (eqb (middle v) select)
+matches select v = eqb (v / 8) slaveCode && eqb (middle v) select

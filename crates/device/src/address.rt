@@ -1,5 +1,5 @@
 // The slave byte and the two address bytes.
-use part::kinds::Kind;
+use ground::kinds::Kind;
 use part::page;
 use part::state::BusAddress;
 use part::state::Control;
@@ -49,11 +49,7 @@ pub fn choose(c: Control, chosen: bool) -> Control
 fn is_ours(select: u8, v: u8) -> bool
     ensures { λ r. ⌜ r ≡ matches select v ⌝ }
 {
-    if v / 8 == 20 {
-        v / 2 % 4 == select
-    } else {
-        false
-    }
+    (v / 8 == 20) & (v / 2 % 4 == select)
 }
 
 pub fn slave(select: u8, d: Device, v: u8) -> Device

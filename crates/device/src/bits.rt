@@ -1,6 +1,6 @@
 // A bit below the eighth, and the ninth.
 use crate::address;
-use part::kinds::Kind;
+use ground::kinds::Kind;
 use part::page;
 use part::state::Device;
 use part::state::Phase;

@@ -1,6 +1,6 @@
 // A whole byte, at its eighth fall.
 use crate::address;
-use part::kinds::Kind;
+use ground::kinds::Kind;
 use part::lock;
 use part::page;
 use part::state::Control;
@@ -37,13 +37,7 @@ pub fn taken(kind: Kind, d: Device) -> bool
     ensures { λ r. ⌜ r ≡ takenOf kind d ⌝ }
 {
     let control = d.control;
-    if control.wel {
-        if lock::locked(kind, control.stored, d.counter) {
-            return false;
-        }
-        return true;
-    }
-    false
+    control.wel & !lock::locked(kind, control.stored, d.counter)
 }
 
 fn data(kind: Kind, d: Device) -> Device

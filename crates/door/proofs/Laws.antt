@@ -5,10 +5,11 @@ use mathlib.Core.Path.{_≡_, refl, ap, _∙_}
 use native.Mathlib.Omega.{arith}
 use lib.ListN.{length, set}
 use borrow.Author.Tests.{eq-eqb, ne-eqb}
-use Rattle.refusals.specs.Refusals.{meant, powerOf}
-use Rattle.refusals.specs.declared.Reply.{Reply}
-use Rattle.refusals.specs.declared.Reply.the-variants.{Accepted, Refused}
-use Rattle.refusals.proofs.Laws.{is-accepted, is-refused}
+use Rattle.ground.specs.Verdict.{meant}
+use Rattle.refusals.specs.Refusals.{powerOf}
+use Rattle.ground.specs.declared.Reply.{Reply}
+use Rattle.ground.specs.declared.Reply.the-variants.{Accepted, Refused}
+use Rattle.ground.proofs.Verdicts.{is-accepted, is-refused}
 use Rattle.twin.specs.declared.replays.Replayed.{Replayed}
 use Rattle.twin.specs.Promises.{PowersUp, Replays}
 use Rattle.image.specs.Promises.{ReadsImage, WritesImage}

@@ -6,8 +6,9 @@ use mathlib.Core.List.{List, [], _∷_}
 use mathlib.Core.Path.{_≡_}
 use lib.Dec.{eqb}
 use lib.ListN.{length}
-use Rattle.refusals.specs.Refusals.{Verdict, accepted, refused, meant, judgedOf, powerOf}
-use Rattle.refusals.specs.declared.Reply.{Reply}
+use Rattle.ground.specs.Verdict.{Verdict, accepted, refused, meant}
+use Rattle.refusals.specs.Refusals.{judgedOf, powerOf}
+use Rattle.ground.specs.declared.Reply.{Reply}
 use Rattle.sample.specs.Run.{Part}
 use Rattle.twin.specs.Power.{poweredUp}
 use Rattle.twin.specs.Promises.{partAfter, rowAfter}

@@ -1,10 +1,10 @@
 // The twin and the images for other languages, over numbers and slices; include/qillampu.h declares the three
 // functions for C. None has a `requires`, and each says for every input its answer, the reply row and what each
 // lent row holds at the end.
-use refusals::Reply;
+use ground::Reply;
 ghost use mathlib.Core.Path.{_≡_};
 ghost use lib.ListN.{length};
-ghost use Rattle.refusals.specs.Refusals.{meant};
+ghost use Rattle.ground.specs.Verdict.{meant};
 ghost use Rattle.door.specs.Promises.{told, Captures, ReplaysOnce, ReadsThrough, WritesThrough};
 
 // Numbers in a reply row.
@@ -25,7 +25,7 @@ fn tell(row: &mut [u64], reply: Reply)
             row[0] = 0;
             row[1] = count as u64;
         }
-        Reply::Refused(number, place) => {
+        Reply::Refused { number, place } => {
             row[0] = number as u64;
             row[1] = place as u64;
         }

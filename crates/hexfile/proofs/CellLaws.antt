@@ -1,6 +1,6 @@
 -- Laws of the cells and of blank bytes that several proofs cite. Assumes nothing.
 use Prim.Native.Nat.{ℕ, zero, suc, _<_, _≤_}
-use mathlib.Core.Bool.{Bool, true, false, _&&_}
+use mathlib.Core.Bool.{Bool, true, false, _&&_, and-assoc, and-true}
 use mathlib.Core.List.{List, [], _∷_, _++_, append-assoc, append-nil}
 use mathlib.Core.Path.{_≡_, refl, ap, sym, _∙_}
 use native.Mathlib.Omega.{arith}
@@ -8,10 +8,8 @@ use lib.Dec.{eqb, ltb}
 use lib.ListN.{length, getD, take, drop, set, replicate, take-append-drop, drop-of-length-le}
 use lib.Seq.{drop-cons, take-suc-set, drop-set-lt, take-all}
 use borrow.Author.Tests.{eqb-true, lt-ltb, ltb-true}
-use Rattle.part.specs.Cases.{both}
 use Rattle.hexfile.specs.Cells.{notGiven, blankByte, freshOf, giveOf, byteBy, settledOf, blankOf}
-use Rattle.part.proofs.Laws.{both-split}
-use Rattle.hexfile.proofs.TestLaws.{and-both, both-true}
+use Rattle.ground.proofs.Tests.{and-split}
 
 -- The rows keep their lengths.
 pub length-giveOf : (cs bs : List ℕ) → length (giveOf cs bs) ≡ length cs
@@ -46,20 +44,20 @@ fresh-nil (c ∷ cs) = refl
 
 -- One turn of the tests: the cell at an index is tested before it is given, and what is left is tested behind it.
 pub fresh-turn : (cs bs : List ℕ) (i v : ℕ) (fresh : Bool) → i < length cs → i < length bs
-    → both (fresh && eqb (getD cs i 0) notGiven) (freshOf (drop (suc i) (set cs i v)) (drop (suc i) bs))
-    ≡ both fresh (freshOf (drop i cs) (drop i bs))
+    → ((fresh && eqb (getD cs i 0) notGiven) && freshOf (drop (suc i) (set cs i v)) (drop (suc i) bs))
+    ≡ (fresh && freshOf (drop i cs) (drop i bs))
 fresh-turn cs bs i v fresh p q =
     rw (
       drop-set-lt (suc i) cs i v (omega arith),
-      and-both fresh (eqb (getD cs i 0) notGiven) (freshOf (drop (suc i) cs) (drop (suc i) bs)),
+      and-assoc fresh (eqb (getD cs i 0) notGiven) (freshOf (drop (suc i) cs) (drop (suc i) bs)),
       drop-cons cs i 0 p,
       drop-cons bs i 0 q,
     )
 
 -- Past the bytes nothing is left to test.
 pub fresh-done : (cs bs : List ℕ) (i : ℕ) (fresh : Bool) {whole : Bool} → length bs ≤ i
-    → both fresh (freshOf (drop i cs) (drop i bs)) ≡ whole → fresh ≡ whole
-fresh-done cs bs i fresh h e = sym (both-true fresh) ∙ (rw (drop-of-length-le bs h, fresh-nil (drop i cs)) at e)
+    → (fresh && freshOf (drop i cs) (drop i bs)) ≡ whole → fresh ≡ whole
+fresh-done cs bs i fresh h e = sym (and-true fresh) ∙ (rw (drop-of-length-le bs h, fresh-nil (drop i cs)) at e)
 
 -- One turn of the giving: the byte at an index is given, and what is left is given behind it.
 pub give-turn : (cs bs : List ℕ) (i v : ℕ) → i < length cs → i < length bs → v ≡ getD bs i 0
@@ -117,5 +115,5 @@ settle-done cs array whole i p q e =
 pub blank-same : (bs : List ℕ) → blankOf bs ≡ true → bs ≡ replicate (length bs) blankByte
 blank-same [] e = refl
 blank-same (b ∷ bs) e =
-    let t = both-split (eqb b blankByte) (blankOf bs) e in
+    let t = and-split (eqb b blankByte) (blankOf bs) e in
     rw (eqb-true b blankByte (t .0)) (ap (λ (l : List ℕ). blankByte ∷ l) (blank-same bs (t .1)))

@@ -6,13 +6,13 @@ use mathlib.Core.Path.{_≡_, refl}
 use native.Mathlib.Omega.{arith}
 use lib.Dec.{leb, ltb}
 use borrow.Author.Tests.{ltb-true, ltb-false, leb-true, lt-ltb, le-ltb, le-leb, lt-leb}
-use Rattle.part.proofs.Laws.{both-split}
+use Rattle.ground.proofs.Tests.{and-split}
 use Rattle.hexfile.specs.Digits.{base, within, digitBy, digitOf, isDigit, glyphOf}
 
 -- A number within two others lies between them.
 pub within-true : (low high c : ℕ) → within low high c ≡ true → (low ≤ c) × (c ≤ high)
 within-true low high c e =
-    let t = both-split (leb low c) (leb c high) e in
+    let t = and-split (leb low c) (leb c high) e in
     (leb-true low c (t .0), leb-true c high (t .1))
 
 -- 0 to 9 read as nought to nine.

@@ -3,5 +3,4 @@ pub mod DigitLaws
 pub mod LineLaws
 pub mod PairLaws
 pub mod SumLaws
-pub mod TestLaws
 pub mod WindowLaws

@@ -10,7 +10,7 @@ use lib.Seq.{drop-cons, drop-drop, getD-take, getD-drop, length-take-le, take-le
 use borrow.Author.Tests.{eq-eqb, ne-eqb}
 use Rattle.hexfile.specs.Lines.{lineFeed, carriageReturn, joinBy, linesOf, firstLine, trimBy, trimmed, stepOf, lineAt, noLine}
 use Rattle.hexfile.specs.Parts.{feedIn, Skips}
-use Rattle.hexfile.proofs.TestLaws.{either-split}
+use Rattle.ground.proofs.Tests.{or-split}
 
 -- A character that ends no line stands at the start of the first line.
 first-join : (c : ℕ) (ls : List (List ℕ)) → firstLine (joinBy false c ls) ≡ c ∷ firstLine ls
@@ -96,7 +96,7 @@ first-past : (k : ℕ) (xs : List ℕ) → k ≤ length xs → feedIn (take k xs
 first-past zero xs h e = omega arith
 first-past (suc k) [] h e = absurd (omega arith)
 first-past (suc k) (c ∷ cs) h e =
-    let t = either-split (eqb c lineFeed) (feedIn (take k cs)) e in
+    let t = or-split (eqb c lineFeed) (feedIn (take k cs)) e in
     let n = first-past k cs (omega arith) (t .1) in
     rw (t .0, first-join c (linesOf cs)) (omega arith)
 

@@ -1,6 +1,6 @@
 -- Laws of the pairs of digits and of the sums that the proofs cite. Assumes nothing.
 use Prim.Native.Nat.{ℕ, suc, _+_, _*_, _/_, _%_, _<_, _≤_}
-use mathlib.Core.Bool.{true, false, true≢false}
+use mathlib.Core.Bool.{true, false, true≢false, _&&_}
 use mathlib.Core.List.{List, [], _∷_}
 use mathlib.Core.Path.{_≡_, refl}
 use native.Mathlib.Omega.{arith}
@@ -8,12 +8,11 @@ use native.Mathlib.Numerals.{add-one}
 use lib.ListN.{length, getD, drop, set}
 use lib.Seq.{drop-cons, sets}
 use borrow.Author.Tests.{ltb-true}
-use Rattle.part.specs.Cases.{both}
-use Rattle.part.specs.Numbers.{byteValues}
+use Rattle.ground.specs.Numbers.{byteValues}
 use Rattle.hexfile.specs.Digits.{base, digitOf, isDigit, glyphOf}
 use Rattle.hexfile.specs.Pairs.{pairOf, paired, pairsOf, textOf, sumOf}
 use Rattle.hexfile.proofs.DigitLaws.{glyph-written, glyph-digit}
-use Rattle.part.proofs.Laws.{both-split}
+use Rattle.ground.proofs.Tests.{and-split}
 
 -- The byte of two digits is one.
 pub pair-fits : (a b : ℕ) → isDigit a ≡ true → isDigit b ≡ true → pairOf a b < 256
@@ -28,8 +27,8 @@ length-textOf (b ∷ bs) = omega (arith, length-textOf bs)
 pub pair-split : (a b : ℕ) (cs : List ℕ) → paired (a ∷ b ∷ cs) ≡ true
     → (isDigit a ≡ true) × (isDigit b ≡ true) × (paired cs ≡ true)
 pair-split a b cs e =
-    let t = both-split (both (isDigit a) (isDigit b)) (paired cs) e in
-    let d = both-split (isDigit a) (isDigit b) (t .0) in
+    let t = and-split (isDigit a && isDigit b) (paired cs) e in
+    let d = and-split (isDigit a) (isDigit b) (t .0) in
     (d .0, d .1, t .1)
 
 -- Two characters are read as a byte.

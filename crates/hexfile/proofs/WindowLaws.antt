@@ -1,6 +1,6 @@
 -- Laws of what is tested and decoded many characters at a time. Assumes nothing.
 use Prim.Native.Nat.{ℕ, zero, suc, _+_, _*_, _-_, _/_, _%_, _<_, _≤_}
-use mathlib.Core.Bool.{Bool, true, false, _&&_, _||_, true≢false}
+use mathlib.Core.Bool.{Bool, true, false, _&&_, _||_, true≢false, and-assoc, and-false, and-true, or-assoc, or-false}
 use mathlib.Core.List.{List, [], _∷_, _++_, append-assoc, append-nil}
 use mathlib.Core.Path.{_≡_, refl, ap, sym, _∙_}
 use native.Mathlib.Omega.{arith}
@@ -8,8 +8,7 @@ use lib.Dec.{eqb, ltb}
 use lib.ListN.{length, getD, take, drop, set, length-drop, take-append-drop, drop-of-length-le}
 use lib.Seq.{drop-cons, take-suc-set, take-all, take-add, take-at, drop-at, take-take, take-append-le, length-take-le}
 use borrow.Author.Tests.{lt-ltb, le-ltb}
-use Rattle.part.specs.Cases.{both, either}
-use Rattle.part.proofs.Laws.{both-split}
+use Rattle.ground.proofs.Tests.{and-split}
 use Rattle.hexfile.specs.Digits.{within, digitBy, digitOf, isDigit}
 use Rattle.hexfile.specs.Lines.{lineFeed}
 use Rattle.hexfile.specs.Pairs.{paired, pairsOf}
@@ -17,7 +16,6 @@ use Rattle.hexfile.specs.Parts.{shiftBy, valueOf, valuesOf, allDigits, f
 use Rattle.hexfile.specs.Promises.{Decodes}
 use Rattle.hexfile.proofs.DigitLaws.{within-true}
 use Rattle.hexfile.proofs.PairLaws.{two}
-use Rattle.hexfile.proofs.TestLaws.{and-both, or-either, both-true, both-false, either-false, both-assoc}
 
 -- A figure or a letter is a digit, and nothing else is.
 pub digit-test : (c : ℕ) {a b : Bool} → a ≡ within 0x30 0x39 c → b ≡ within 0x41 0x46 c → a || b ≡ isDigit c
@@ -54,33 +52,33 @@ value-small c e = rw e (omega arith)
 
 -- One turn of the tests: a character is tested, and what is left after it.
 pub all-turn : (text : List ℕ) (all : Bool) (i : ℕ) {d : Bool} → i < length text → d ≡ isDigit (getD text i 0)
-    → both (all && d) (allDigits (drop (suc i) text)) ≡ both all (allDigits (drop i text))
-all-turn text all i {d} h e = rw (and-both all d (allDigits (drop (suc i) text)), drop-cons text i 0 h, e)
+    → ((all && d) && allDigits (drop (suc i) text)) ≡ (all && allDigits (drop i text))
+all-turn text all i {d} h e = rw (and-assoc all d (allDigits (drop (suc i) text)), drop-cons text i 0 h, e)
 
 pub feed-turn : (text : List ℕ) (any : Bool) (i : ℕ) → i < length text
-    → either (any || eqb (getD text i 0) lineFeed) (feedIn (drop (suc i) text)) ≡ either any (feedIn (drop i text))
+    → ((any || eqb (getD text i 0) lineFeed) || feedIn (drop (suc i) text)) ≡ (any || feedIn (drop i text))
 feed-turn text any i h =
-    rw (or-either any (eqb (getD text i 0) lineFeed) (feedIn (drop (suc i) text)), drop-cons text i 0 h)
+    rw (or-assoc any (eqb (getD text i 0) lineFeed) (feedIn (drop (suc i) text)), drop-cons text i 0 h)
 
 pub all-done : (text : List ℕ) (all : Bool) (i : ℕ) {whole : Bool} → length text ≤ i
-    → both all (allDigits (drop i text)) ≡ whole → all ≡ whole
-all-done text all i h e = sym (both-true all) ∙ (rw (drop-of-length-le text h) at e)
+    → (all && allDigits (drop i text)) ≡ whole → all ≡ whole
+all-done text all i h e = sym (and-true all) ∙ (rw (drop-of-length-le text h) at e)
 
 pub feed-done : (text : List ℕ) (any : Bool) (i : ℕ) {whole : Bool} → length text ≤ i
-    → either any (feedIn (drop i text)) ≡ whole → any ≡ whole
-feed-done text any i h e = sym (either-false any) ∙ (rw (drop-of-length-le text h) at e)
+    → (any || feedIn (drop i text)) ≡ whole → any ≡ whole
+feed-done text any i h e = sym (or-false any) ∙ (rw (drop-of-length-le text h) at e)
 
 -- Digits are tested part by part, and a second test of some of them tells nothing new.
-pub all-append : (xs ys : List ℕ) → allDigits (xs ++ ys) ≡ both (allDigits xs) (allDigits ys)
+pub all-append : (xs ys : List ℕ) → allDigits (xs ++ ys) ≡ (allDigits xs && allDigits ys)
 all-append [] ys = refl
-all-append (x ∷ xs) ys = rw (all-append xs ys, both-assoc (isDigit x) (allDigits xs) (allDigits ys))
+all-append (x ∷ xs) ys = rw (all-append xs ys, and-assoc (isDigit x) (allDigits xs) (allDigits ys))
 
 pub all-overlap : (xs : List ℕ) (i j : ℕ) → j ≤ i → allDigits (take i xs) ≡ true → allDigits (drop j xs) ≡ allDigits xs
 all-overlap xs i zero h e = refl
 all-overlap [] i (suc j) h e = refl
 all-overlap (x ∷ xs) zero (suc j) h e = absurd (omega arith)
 all-overlap (x ∷ xs) (suc i) (suc j) h e =
-    let t = both-split (isDigit x) (allDigits (take i xs)) e in
+    let t = and-split (isDigit x) (allDigits (take i xs)) e in
     rw (t .0) (all-overlap xs i j (omega arith) (t .1))
 
 all-take : (xs : List ℕ) (i : ℕ) → allDigits (take i xs) ≡ false → allDigits xs ≡ false
@@ -113,22 +111,22 @@ pub all-paired : (k : ℕ) (xs : List ℕ) → length xs ≡ 2 * k → paired xs
 all-paired k [] h = refl
 all-paired k (a ∷ []) h = absurd (omega arith)
 all-paired zero (a ∷ b ∷ cs) h = absurd (omega arith)
-all-paired (suc k) (a ∷ b ∷ cs) h = rw (all-paired k cs (omega arith), both-assoc (isDigit a) (isDigit b) (allDigits cs))
+all-paired (suc k) (a ∷ b ∷ cs) h = rw (all-paired k cs (omega arith), and-assoc (isDigit a) (isDigit b) (allDigits cs))
 
 pub odd-unpaired : (k : ℕ) (xs : List ℕ) → length xs ≡ 2 * k + 1 → paired xs ≡ false
 odd-unpaired k [] h = absurd (omega arith)
 odd-unpaired k (a ∷ []) h = refl
 odd-unpaired zero (a ∷ b ∷ cs) h = absurd (omega arith)
 odd-unpaired (suc k) (a ∷ b ∷ cs) h =
-    rw (odd-unpaired k cs (omega arith)) (both-false (both (isDigit a) (isDigit b)))
+    rw (odd-unpaired k cs (omega arith)) (and-false (isDigit a && isDigit b))
 
 -- The values of pairs of digits are their bytes.
 pub values-pairs : (xs : List ℕ) → allDigits xs ≡ true → valuesOf xs ≡ pairsOf xs
 values-pairs [] e = refl
 values-pairs (a ∷ []) e = refl
 values-pairs (a ∷ b ∷ cs) e =
-    let t = both-split (isDigit a) (both (isDigit b) (allDigits cs)) e in
-    let u = both-split (isDigit b) (allDigits cs) (t .1) in
+    let t = and-split (isDigit a) (isDigit b && allDigits cs) e in
+    let u = and-split (isDigit b) (allDigits cs) (t .1) in
     rw (value-digit a (t .0), value-digit b (u .0), values-pairs cs (u .1))
 
 -- Pairs are joined part by part.
@@ -252,7 +250,7 @@ decode-fails text room n from h k p e f =
     let l : length (take n text) ≡ n = length-take-le n text h in
     let w : allDigits (take 16 (drop from text)) ≡ false = sym (rw m at e) ∙ f in
     let t : allDigits (take (from + 16) text) ≡ false =
-    rw (take-add from 16 text, all-append (take from text) (take 16 (drop from text)), w) (both-false (allDigits (take from text))) in
+    rw (take-add from 16 text, all-append (take from text) (take 16 (drop from text)), w) (and-false (allDigits (take from text))) in
     let u : allDigits (take n text) ≡ false =
     all-take (take n text) (from + 16) (rw (take-take (from + 16) n text p) t) in
     record {

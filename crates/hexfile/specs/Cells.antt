@@ -1,10 +1,9 @@
 -- Cells, one for each address: the byte that a file gives there, or that it gives none; and blank bytes (document 01, Image files).
 use Prim.Native.Nat.{ℕ}
-use mathlib.Core.Bool.{Bool, true, false}
+use mathlib.Core.Bool.{Bool, true, false, _&&_}
 use mathlib.Core.List.{List, [], _∷_}
 use lib.Dec.{eqb, ltb}
-use Rattle.part.specs.Cases.{both}
-use Rattle.part.specs.Numbers.{byteValues}
+use Rattle.ground.specs.Numbers.{byteValues}
 
 -- What a cell holds that is not given: more than any byte (Image files, bytes not given).
 abbrev pub notGiven : ℕ
@@ -18,7 +17,7 @@ blankByte = 0xFF
 abbrev pub freshOf : List ℕ → List ℕ → Bool
 freshOf [] bs = true
 freshOf (c ∷ cs) [] = true
-freshOf (c ∷ cs) (b ∷ bs) = both (eqb c notGiven) (freshOf cs bs)
+freshOf (c ∷ cs) (b ∷ bs) = eqb c notGiven && freshOf cs bs
 
 -- The cells with the bytes given to the first of them (Image files, address, data).
 abbrev pub giveOf : List ℕ → List ℕ → List ℕ
@@ -39,4 +38,4 @@ settledOf (c ∷ cs) = byteBy (ltb c notGiven) c ∷ settledOf cs
 -- Whether bytes are all FFh (Image files, the writer).
 abbrev pub blankOf : List ℕ → Bool
 blankOf [] = true
-blankOf (b ∷ bs) = both (eqb b blankByte) (blankOf bs)
+blankOf (b ∷ bs) = eqb b blankByte && blankOf bs

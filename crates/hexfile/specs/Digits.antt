@@ -1,8 +1,7 @@
 -- Hexadecimal digits (document 01, Image files).
 use Prim.Native.Nat.{ℕ, _+_, _-_}
-use mathlib.Core.Bool.{Bool, true, false}
+use mathlib.Core.Bool.{Bool, true, false, _&&_}
 use lib.Dec.{leb, ltb}
-use Rattle.part.specs.Cases.{both}
 
 -- How many digits there are; as a digit's value it stands for no digit (Image files, upper-case digits).
 abbrev pub base : ℕ
@@ -18,7 +17,7 @@ letters = 0x37
 
 -- Whether a character lies between two others, both included (Image files, upper-case digits).
 abbrev pub within : ℕ → ℕ → ℕ → Bool
-within low high c = both (leb low c) (leb c high)
+within low high c = leb low c && leb c high
 
 -- 0 to 9 and A to F are digits, and no other character is one (Image files, upper-case digits).
 abbrev pub digitBy : Bool → Bool → ℕ → ℕ

@@ -1,10 +1,9 @@
 -- Bytes as pairs of digits, and their checksum (document 01, Image files).
 use Prim.Native.Nat.{ℕ, _+_, _*_, _-_, _/_, _%_}
-use mathlib.Core.Bool.{Bool, true, false}
+use mathlib.Core.Bool.{Bool, true, false, _&&_}
 use mathlib.Core.List.{List, [], _∷_}
 use lib.Dec.{eqb}
-use Rattle.part.specs.Cases.{both}
-use Rattle.part.specs.Numbers.{byteValues}
+use Rattle.ground.specs.Numbers.{byteValues}
 use Rattle.hexfile.specs.Digits.{base, digitOf, isDigit, glyphOf}
 
 -- The byte of two digits, the higher first (Image files).
@@ -15,7 +14,7 @@ pairOf a b = digitOf a * base + digitOf b
 abbrev pub paired : List ℕ → Bool
 paired [] = true
 paired (a ∷ []) = false
-paired (a ∷ b ∷ cs) = both (both (isDigit a) (isDigit b)) (paired cs)
+paired (a ∷ b ∷ cs) = (isDigit a && isDigit b) && paired cs
 
 -- The bytes of the pairs (Image files).
 abbrev pub pairsOf : List ℕ → List ℕ

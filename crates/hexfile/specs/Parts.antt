@@ -1,11 +1,10 @@
 -- What the inner functions promise each other.
 use Prim.Native.Nat.{ℕ, _+_, _*_, _%_, _≤_}
-use mathlib.Core.Bool.{Bool, true, false}
+use mathlib.Core.Bool.{Bool, true, false, _&&_, _||_}
 use mathlib.Core.List.{List, [], _∷_}
 use mathlib.Core.Path.{_≡_}
 use lib.Dec.{eqb, ltb}
 use lib.ListN.{length, drop}
-use Rattle.part.specs.Cases.{both, either}
 use Rattle.hexfile.specs.Digits.{base, isDigit}
 use Rattle.hexfile.specs.Lines.{lineFeed, firstLine, linesOf}
 
@@ -27,12 +26,12 @@ valuesOf (a ∷ b ∷ cs) = (valueOf a * base + valueOf b) ∷ valuesOf cs
 -- Whether characters are all digits.
 abbrev pub allDigits : List ℕ → Bool
 allDigits [] = true
-allDigits (c ∷ cs) = both (isDigit c) (allDigits cs)
+allDigits (c ∷ cs) = isDigit c && allDigits cs
 
 -- Whether a line feed is among characters.
 abbrev pub feedIn : List ℕ → Bool
 feedIn [] = false
-feedIn (c ∷ cs) = either (eqb c lineFeed) (feedIn cs)
+feedIn (c ∷ cs) = eqb c lineFeed || feedIn cs
 
 -- A place in a text from which the line that starts at another ends where that line does.
 pub record Skips (text : List ℕ) (at r : ℕ) : Type 0 where

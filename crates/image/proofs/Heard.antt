@@ -1,6 +1,6 @@
 -- Laws of one line: whether it is well formed, and what its bytes say to the cells. Assumes nothing.
 use Prim.Native.Nat.{ℕ, zero, suc, _+_, _*_, _-_, _/_, _≤_, _<_}
-use mathlib.Core.Bool.{Bool, true, false}
+use mathlib.Core.Bool.{Bool, true, false, _&&_, and-false}
 use mathlib.Core.List.{List, [], _∷_}
 use mathlib.Core.Path.{_≡_, refl, ap, sym, _∙_}
 use native.Mathlib.Omega.{arith}
@@ -8,14 +8,12 @@ use lib.Dec.{eqb}
 use lib.ListN.{length, getD, take, drop, length-drop}
 use lib.Seq.{length-take-le, getD-take, take-nil}
 use borrow.Author.Tests.{eq-eqb, ne-eqb, eqb-true}
-use Rattle.part.specs.Cases.{both}
 use Rattle.hexfile.specs.Digits.{isDigit}
 use Rattle.hexfile.specs.Pairs.{paired, pairsOf, sumsToZero}
 use Rattle.hexfile.specs.Promises.{Decodes, SumsUp}
-use Rattle.part.proofs.Laws.{both-split}
+use Rattle.ground.proofs.Tests.{and-split}
 use Rattle.hexfile.proofs.PairLaws.{pair-fits, length-pairsOf}
 use Rattle.hexfile.proofs.CellLaws.{fresh-nil}
-use Rattle.hexfile.proofs.TestLaws.{both-false}
 use Rattle.hexfile.proofs.WindowLaws.{tail-whole}
 use Rattle.image.specs.Form.{bytesOf, countOf, addressOf, typeOf, dataOf, wellFormed, typed, inside}
 use Rattle.image.specs.Reading.{fresh, givenOf, recordSays, saysOf}
@@ -32,8 +30,8 @@ judge-untyped bs cells s t = record { said = rw (s, t); kept = refl }
 pub judge-end : (bs cells : List ℕ) → sumsToZero bs ≡ true → typed bs ≡ true → typeOf bs ≡ 1 → Judges bs cells Ends cells
 unfolding recordSays typed inside fresh
 judge-end bs cells s t y =
-    let b : both (eqb (countOf bs) 0) (eqb (addressOf bs) 0) ≡ true = rw y at t in
-    let n : countOf bs ≡ 0 = eqb-true (countOf bs) 0 (both-split (eqb (countOf bs) 0) (eqb (addressOf bs) 0) b .0) in
+    let b : (eqb (countOf bs) 0 && eqb (addressOf bs) 0) ≡ true = rw y at t in
+    let n : countOf bs ≡ 0 = eqb-true (countOf bs) 0 (and-split (eqb (countOf bs) 0) (eqb (addressOf bs) 0) b .0) in
     record { said = rw (s, y, b, n, fresh-nil (drop (addressOf bs) cells)); kept = refl }
 
 -- The bytes of a data record say what its data do at its address.
@@ -52,11 +50,11 @@ count-fits : (cs : List ℕ) → paired cs ≡ true → getD (pairsOf cs) 0 0 < 
 count-fits [] h = omega arith
 count-fits (a ∷ []) h = let z : _≡_ {A = ℕ} 0 1 = cc in absurd (omega arith)
 count-fits (a ∷ b ∷ cs) h =
-    let d = both-split (isDigit a) (isDigit b) (both-split (both (isDigit a) (isDigit b)) (paired cs) h .0) in
+    let d = and-split (isDigit a) (isDigit b) (and-split (isDigit a && isDigit b) (paired cs) h .0) in
     pair-fits a b (d .0) (d .1)
 
 -- A conjunction fails where the second test does, given the first.
-both-unless : (p q : Bool) → (p ≡ true → q ≡ false) → both p q ≡ false
+both-unless : (p q : Bool) → (p ≡ true → q ≡ false) → (p && q) ≡ false
 both-unless true q h = h refl
 both-unless false q h = refl
 
@@ -87,7 +85,7 @@ colon-unformed line room h = unformed line room (rw (ne-eqb (getD line 0 0) 0x3A
 pairs-unformed : (line room : List ℕ) → Decodes (drop 1 line) false room → Forms line false room
 unfolding wellFormed
 pairs-unformed line room d =
-    unformed line room (rw (sym (d .said)) (both-false (eqb (getD line 0 0) 0x3A)))
+    unformed line room (rw (sym (d .said)) (and-false (eqb (getD line 0 0) 0x3A)))
 
 -- The bytes of a line of pairs, and their number.
 bytes-half : (line : List ℕ) → 11 ≤ length line → paired (drop 1 line) ≡ true → length (bytesOf line) ≡ length line / 2
@@ -142,8 +140,8 @@ formed-count : (line : List ℕ) → wellFormed line ≡ true
 unfolding wellFormed
 formed-count line h =
     let sized : Bool = eqb (length line) (11 + 2 * countOf (bytesOf line)) in
-    let q = both-split (eqb (getD line 0 0) 0x3A) (both (paired (drop 1 line)) sized) h in
-    let t = both-split (paired (drop 1 line)) sized (q .1) in
+    let q = and-split (eqb (getD line 0 0) 0x3A) (paired (drop 1 line) && sized) h in
+    let t = and-split (paired (drop 1 line)) sized (q .1) in
     let e : length line ≡ 11 + 2 * countOf (bytesOf line) =
     eqb-true (length line) (11 + 2 * countOf (bytesOf line)) (t .1) in
     let m : length (bytesOf line) ≡ length line / 2 = bytes-half line (omega arith) (t .0) in
@@ -155,8 +153,8 @@ unfolding wellFormed bytesOf
 formed-most line h =
     let n = formed-count line h in
     let sized : Bool = eqb (length line) (11 + 2 * countOf (bytesOf line)) in
-    let q = both-split (eqb (getD line 0 0) 0x3A) (both (paired (drop 1 line)) sized) h in
-    let k = count-fits (drop 1 line) (both-split (paired (drop 1 line)) sized (q .1) .0) in
+    let q = and-split (eqb (getD line 0 0) 0x3A) (paired (drop 1 line) && sized) h in
+    let k = count-fits (drop 1 line) (and-split (paired (drop 1 line)) sized (q .1) .0) in
     omega arith
 
 -- The room that has the bytes of a line, the first characters of a text: it has room for eight more; and after the sum of the

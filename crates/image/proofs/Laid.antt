@@ -9,9 +9,9 @@ use native.Mathlib.Numerals.{add-one}
 use lib.ListN.{length, take, drop, set, length-append, length-drop}
 use lib.Seq.{sets, sets-eq, length-take-le, drop-drop}
 use borrow.Author.Tests.{eq-eqb, ne-eqb, le-leb, lt-leb}
-use Rattle.part.proofs.Rows.{sets-append}
-use Rattle.refusals.specs.Refusals.{meant}
-use Rattle.refusals.specs.declared.Reply.the-variants.{Accepted, Refused}
+use Rattle.ground.proofs.Rows.{sets-append}
+use Rattle.ground.specs.Verdict.{meant}
+use Rattle.ground.specs.declared.Reply.the-variants.{Accepted, Refused}
 use Rattle.hexfile.specs.Pairs.{textOf, sumOf, checkOf}
 use Rattle.hexfile.specs.Cells.{blankOf}
 use Rattle.hexfile.proofs.PairLaws.{length-textOf}

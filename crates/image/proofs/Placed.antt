@@ -6,7 +6,7 @@ use mathlib.Core.Path.{_≡_, refl, sym, _∙_}
 use native.Mathlib.Omega.{arith}
 use lib.ListN.{length, take, drop, take-append-drop}
 use borrow.Author.Tests.{ne-eqb, le-leb, lt-leb}
-use Rattle.part.proofs.Laws.{part-back}
+use Rattle.ground.proofs.Rows.{part-back}
 use Rattle.hexfile.specs.Cells.{freshOf, giveOf}
 use Rattle.hexfile.specs.Promises.{GivesTo}
 use Rattle.hexfile.proofs.CellLaws.{fresh-nil, give-nil}

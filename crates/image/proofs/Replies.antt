@@ -7,10 +7,10 @@ use lib.ListN.{length, replicate}
 use borrow.Author.Tests.{eq-eqb, ne-eqb, le-leb, lt-leb}
 use Rattle.hexfile.specs.Lines.{linesOf}
 use Rattle.hexfile.specs.Cells.{notGiven, settledOf}
-use Rattle.refusals.specs.Refusals.{accepted, refused, meant}
-use Rattle.refusals.specs.declared.Reply.{Reply}
-use Rattle.refusals.specs.declared.Reply.the-variants.{Accepted, Refused}
-use Rattle.refusals.proofs.Laws.{is-accepted, is-refused}
+use Rattle.ground.specs.Verdict.{accepted, refused, meant}
+use Rattle.ground.specs.declared.Reply.{Reply}
+use Rattle.ground.specs.declared.Reply.the-variants.{Accepted, Refused}
+use Rattle.ground.proofs.Verdicts.{is-accepted, is-refused}
 use Rattle.image.specs.Form.{imageSize, mostText}
 use Rattle.image.specs.Reading.{Reading, taken, bad, linesRead, readingOf}
 use Rattle.image.specs.Promises.{imageOf, verdictOf, arrayAfter, ReadsImage}

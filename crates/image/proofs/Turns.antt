@@ -10,8 +10,8 @@ use Rattle.hexfile.specs.declared.lines.Line.{Line}
 use Rattle.hexfile.specs.declared.lines.Line.the-variants.{At, End}
 use Rattle.hexfile.specs.Cells.{settledOf}
 use Rattle.hexfile.proofs.LineLaws.{first-take, lines-cons, lines-none, line-fits, trim-take, trim-length}
-use Rattle.refusals.specs.Refusals.{meant}
-use Rattle.refusals.specs.declared.Reply.the-variants.{Accepted, Refused}
+use Rattle.ground.specs.Verdict.{meant}
+use Rattle.ground.specs.declared.Reply.the-variants.{Accepted, Refused}
 use Rattle.image.specs.Form.{bytesOf}
 use Rattle.image.specs.Reading.{Heard, saysMeant, taken, bad, givenOf, saysOf, lineBy, linesRead}
 use Rattle.image.specs.Parts.{Hears, ReadsLines}

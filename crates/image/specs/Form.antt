@@ -1,12 +1,11 @@
 -- The form of a record: colon, count, address, type, data, checksum (document 01, Image files).
 use Prim.Native.Nat.{ℕ, _+_, _*_}
-use mathlib.Core.Bool.{Bool, true, false}
+use mathlib.Core.Bool.{Bool, true, false, _&&_, _||_}
 use mathlib.Core.List.{List}
 use lib.Dec.{eqb, leb}
 use lib.ListN.{length, getD, take, drop}
-use Rattle.part.specs.Numbers.{x4323, byteValues}
-use Rattle.part.specs.Kind.{kindOf}
-use Rattle.part.specs.Cases.{both, either}
+use Rattle.ground.specs.Numbers.{x4323, byteValues}
+use Rattle.ground.specs.Kind.{kindOf}
 use Rattle.hexfile.specs.Pairs.{paired, pairsOf}
 
 -- The size of the array that an image is for (Refusal numbers, 5).
@@ -59,12 +58,12 @@ dataOf bs = take (countOf bs) (drop 4 bs)
 
 -- A line is well formed: a colon, then pairs of digits, and as many characters as its count says (Refusal numbers, 12).
 unfoldable pub wellFormed : List ℕ → Bool
-wellFormed l = both (eqb (getD l 0 0) colon) (both (paired (drop 1 l)) (eqb (length l) (charactersIn (countOf (bytesOf l)))))
+wellFormed l = eqb (getD l 0 0) colon && (paired (drop 1 l) && eqb (length l) (charactersIn (countOf (bytesOf l))))
 
 -- Data, the end with neither count nor address, or a type that is not taken (Refusal numbers, 14).
 abbrev pub typeBy : Bool → Bool → Bool → Bool → Bool
 typeBy true end noCount noAddress = true
-typeBy false true noCount noAddress = both noCount noAddress
+typeBy false true noCount noAddress = noCount && noAddress
 typeBy false false noCount noAddress = false
 
 -- Whether a record's type is taken (Refusal numbers, 14).
@@ -73,7 +72,7 @@ typed bs = typeBy (eqb (typeOf bs) dataType) (eqb (typeOf bs) endType) (eqb (cou
 
 -- Whether so many bytes from an address on lie in an array of a size; none do at any address (Refusal numbers, 15).
 abbrev pub fitsIn : ℕ → ℕ → ℕ → Bool
-fitsIn size address count = either (eqb count 0) (leb (address + count) size)
+fitsIn size address count = eqb count 0 || leb (address + count) size
 
 -- Whether a record's data lie in an array of a size (Refusal numbers, 15).
 unfoldable pub inside : ℕ → List ℕ → Bool

@@ -5,12 +5,12 @@ use mathlib.Core.List.{List, [], _∷_, _++_}
 use mathlib.Core.Path.{_≡_}
 use lib.ListN.{length, take, drop}
 use lib.Seq.{sets}
-use Rattle.part.specs.Numbers.{byteValues}
+use Rattle.ground.specs.Numbers.{byteValues}
 use Rattle.hexfile.specs.Lines.{lineFeed, linesOf}
 use Rattle.hexfile.specs.Pairs.{textOf, sumOf}
 use Rattle.hexfile.specs.Cells.{freshOf, giveOf, settledOf, blankOf}
-use Rattle.refusals.specs.Refusals.{meant}
-use Rattle.refusals.specs.declared.Reply.{Reply}
+use Rattle.ground.specs.Verdict.{meant}
+use Rattle.ground.specs.declared.Reply.{Reply}
 use Rattle.image.specs.Form.{colon, bytesOf, wellFormed, fitsIn}
 use Rattle.image.specs.Reading.{Heard, gives, ends, faulty, saysMeant, givenOf, saysBy, recordSays, saysOf, linesRead}
 use Rattle.image.specs.Writing.{rowBy, writtenBy, rowLength, imageText, lengthOf}

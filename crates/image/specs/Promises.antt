@@ -5,8 +5,8 @@ use mathlib.Core.List.{List, _++_}
 use mathlib.Core.Path.{_≡_}
 use lib.Dec.{eqb, leb}
 use lib.ListN.{length, drop}
-use Rattle.refusals.specs.Refusals.{Verdict, accepted, refused, meant}
-use Rattle.refusals.specs.declared.Reply.{Reply}
+use Rattle.ground.specs.Verdict.{Verdict, accepted, refused, meant}
+use Rattle.ground.specs.declared.Reply.{Reply}
 use Rattle.image.specs.Form.{imageSize}
 use Rattle.image.specs.Reading.{Reading, taken, bad, readingOf}
 use Rattle.image.specs.Writing.{imageText, lengthOf, mostLength}

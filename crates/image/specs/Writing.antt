@@ -3,7 +3,7 @@ use Prim.Native.Nat.{ℕ, zero, suc, _+_, _*_, _/_, _%_}
 use mathlib.Core.Bool.{Bool, true, false}
 use mathlib.Core.List.{List, [], _∷_, _++_}
 use lib.ListN.{length, take, drop}
-use Rattle.part.specs.Numbers.{byteValues}
+use Rattle.ground.specs.Numbers.{byteValues}
 use Rattle.hexfile.specs.Lines.{lineFeed}
 use Rattle.hexfile.specs.Pairs.{textOf, checkOf}
 use Rattle.hexfile.specs.Cells.{blankOf}

@@ -1,5 +1,5 @@
 // The form of a record: colon, count, address, type, data, checksum.
-use part::kinds;
+use ground::kinds;
 ghost use mathlib.Core.Path.{_≡_};
 ghost use Rattle.image.specs.Form.{imageSize, charactersIn};
 

@@ -5,5 +5,5 @@ mod records;
 mod writing;
 
 pub use reading::read_image;
-pub use refusals::Reply;
+pub use ground::Reply;
 pub use writing::write_image;

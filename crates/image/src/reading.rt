@@ -5,7 +5,7 @@ use crate::records::Says;
 use hexfile::cells;
 use hexfile::lines;
 use hexfile::lines::Line;
-use refusals::Reply;
+use ground::Reply;
 ghost use mathlib.Core.Path.{_≡_};
 ghost use Prim.Native.Nat.{_≤_};
 ghost use lib.ListN.{length};
@@ -38,12 +38,12 @@ fn read_lines(text: &[u8], room: &mut [u8], cells: &mut [u16]) -> Reply
             }
             Says::Ends => {
                 if next < text.len() {
-                    return Reply::Refused(18, next);
+                    return Reply::Refused { number: 18, place: next };
                 }
                 return Reply::Accepted(text.len());
             }
             Says::Faulty(number) => {
-                return Reply::Refused(number, at);
+                return Reply::Refused { number, place: at };
             }
         }
     }
@@ -69,10 +69,10 @@ pub fn read_image(text: &[u8], array: &mut [u8]) -> Reply
     ensures { λ r. ⌜ ReadsImage (now (text .entry)) (now (array .entry)) r (now (array .exit)) ⌝ }
 {
     if array.len() != forms::image_size() {
-        return Reply::Refused(5, 0);
+        return Reply::Refused { number: 5, place: 0 };
     }
     if text.len() > MOST_TEXT {
-        return Reply::Refused(11, 0);
+        return Reply::Refused { number: 11, place: 0 };
     }
     let mut cells = [cells::NOT_GIVEN; CELLS];
     read_into(text, &mut cells, array)

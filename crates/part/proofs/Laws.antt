@@ -1,20 +1,14 @@
 -- Laws of the tables, of tests and of the page load that several proofs cite. Assumes nothing.
 use Prim.Native.Nat.{ℕ, zero, suc, _-_, _<_, _≤_}
-use mathlib.Core.Bool.{Bool, true, false, true≢false}
+use mathlib.Core.Bool.{Bool, true, false, true≢false, _&&_, cond}
 use mathlib.Core.List.{List, [], _∷_, _++_, append-nil}
 use mathlib.Core.Path.{_≡_, refl, ap, sym, subst, _∙_}
 use native.Mathlib.Omega.{arith}
 use lib.ListN.{length, getD, take, drop, set, length-drop, take-append-drop, drop-of-length-le, List·getD-eq-default}
 use lib.Seq.{drop-cons, take-all}
-use Rattle.part.specs.Cases.{both, some}
 use Rattle.part.specs.Lock.{extentOf, extentTable, firstPages}
-use Rattle.part.specs.Page.{oneOf, layOf}
-use Rattle.part.specs.declared.kinds.Kind.{Kind}
-
--- Two tests that both hold.
-pub both-split : (a b : Bool) → both a b ≡ true → (a ≡ true) × (b ≡ true)
-both-split true b e = (refl, e)
-both-split false b e = absurd (true≢false (cc))
+use Rattle.part.specs.Page.{layOf, anyMarked}
+use Rattle.ground.specs.declared.kinds.Kind.{Kind}
 
 -- The codes 0 to 2 lock nothing.
 pub code-none : (k : Kind) (n : ℕ) → n < 3 → extentOf k n ≡ firstPages 0
@@ -30,10 +24,10 @@ unfolding extentOf
 code-beyond k n h = List·getD-eq-default (extentTable k) (firstPages 0) h
 
 -- A mark at an index decides `some` of what starts there.
-pub some-at : (ms : List Bool) (i : ℕ) → i < length ms → getD ms i false ≡ true → some (drop i ms) ≡ true
+pub some-at : (ms : List Bool) (i : ℕ) → i < length ms → getD ms i false ≡ true → anyMarked (drop i ms) ≡ true
 some-at ms i h e = rw (drop-cons ms i false h, e)
 
-pub some-past : (ms : List Bool) (i : ℕ) → i < length ms → getD ms i false ≡ false → some (drop i ms) ≡ some (drop (suc i) ms)
+pub some-past : (ms : List Bool) (i : ℕ) → i < length ms → getD ms i false ≡ false → anyMarked (drop i ms) ≡ anyMarked (drop (suc i) ms)
 some-past ms i h e = rw (drop-cons ms i false h, e)
 
 -- Nothing is laid over no bytes.
@@ -44,7 +38,7 @@ lay-nil (m ∷ ms) (b ∷ bs) = refl
 
 -- One turn of the laying: the byte at i is put, and what is left is laid from i + 1 on.
 pub lay-turn : (ms : List Bool) (bs xs : List ℕ) (i v : ℕ) → i < length ms → i < length bs → i < length xs
-    → v ≡ oneOf (getD ms i false) (getD bs i 0) (getD xs i 0)
+    → v ≡ cond (getD ms i false) (getD bs i 0) (getD xs i 0)
     → take (suc i) (set xs i v) ++ layOf (drop (suc i) ms) (drop (suc i) bs) (drop (suc i) (set xs i v))
     ≡ take i xs ++ layOf (drop i ms) (drop i bs) (drop i xs)
 lay-turn [] bs xs i v p q r e = absurd (omega arith)
@@ -68,14 +62,6 @@ lay-short ms bs xs whole i h e =
 pub lay-whole : (ms : List Bool) (bs xs whole : List ℕ) (i : ℕ) → length ms ≤ i
     → take i xs ++ layOf (drop i ms) (drop i bs) (drop i xs) ≡ whole → xs ≡ whole
 lay-whole ms bs xs whole i h e = sym (take-append-drop i xs) ∙ (rw (drop-of-length-le ms h) at e)
-
--- A part lent from a on comes back as the whole with what was done to its tail.
-pub part-back : (f : List ℕ → List ℕ) (a : ℕ) (xs ys : List ℕ) → ys ≡ f (take (length xs - a) (drop a xs))
-    → take a xs ++ (ys ++ drop (length xs - a) (drop a xs)) ≡ take a xs ++ f (drop a xs)
-part-back f a xs ys e =
-    let h : length (drop a xs) ≤ length xs - a = simp length-drop (omega arith) in
-    let g : ys ≡ f (drop a xs) = rw (take-all (length xs - a) (drop a xs) h) at e in
-    rw (g, drop-of-length-le (drop a xs) h, append-nil)
 
 -- Nothing is laid where the page lies beyond the array.
 pub store-beyond : (ms : List Bool) (bs xs : List ℕ) (a : ℕ) → length xs ≤ a → take a xs ++ layOf ms bs (drop a xs) ≡ xs

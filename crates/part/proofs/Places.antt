@@ -5,11 +5,11 @@ use mathlib.Core.Path.{_≡_, refl, ap, _∙_}
 use native.Mathlib.Omega.{arith}
 use lib.Dec.{ltb}
 use borrow.Author.Tests.{ltb-true}
-use Rattle.part.specs.Numbers.{pageSize}
-use Rattle.part.specs.Cases.{orZero}
+use Rattle.ground.specs.Numbers.{pageSize}
+use Rattle.ground.specs.Cases.{orZero}
 use Rattle.part.specs.Lock.{extentOf, blockCode, within, lockedOf}
 use Rattle.part.specs.Page.{pageOf, inPage, firstOf, nextInPage, nextInArray}
-use Rattle.part.specs.declared.kinds.Kind.{Kind}
+use Rattle.ground.specs.declared.kinds.Kind.{Kind}
 use Rattle.part.specs.declared.state.Place.{Place}
 
 -- The place n steps on within a page.

@@ -1,6 +1,6 @@
 -- Laws of what a store does to the array. Assumes nothing.
 use Prim.Native.Nat.{ℕ, zero, suc, _+_, _-_, _%_, _<_, _≤_}
-use mathlib.Core.Bool.{Bool, true, false}
+use mathlib.Core.Bool.{Bool, true, false, _&&_, cond}
 use mathlib.Core.List.{List, [], _∷_}
 use mathlib.Core.Path.{_≡_, refl, ap, sym, _∙_}
 use native.Mathlib.Omega.{arith}
@@ -8,9 +8,8 @@ use lib.Dec.{eqb, ltb}
 use lib.ListN.{length, getD, take, drop, length-append, length-take, length-drop, List·getD-append, List·getD-eq-default}
 use lib.Seq.{length-take-le, getD-append-add, getD-take, getD-drop}
 use borrow.Author.Tests.{ltb-true, ltb-false, eq-eqb, ne-eqb}
-use Rattle.part.specs.Numbers.{pageSize}
-use Rattle.part.specs.Cases.{both}
-use Rattle.part.specs.Page.{pageOf, inPage, firstOf, byteAt, oneOf, layOf, storeOf}
+use Rattle.ground.specs.Numbers.{pageSize}
+use Rattle.part.specs.Page.{pageOf, inPage, firstOf, byteAt, layOf, storeOf}
 use Rattle.part.specs.declared.state.Load.{Load}
 use Rattle.part.specs.declared.state.Place.{Place}
 
@@ -23,7 +22,7 @@ lay-length (m ∷ ms) (b ∷ bs) (x ∷ xs) = ap suc (lay-length ms bs xs)
 
 -- The byte at an index after the laying: the loaded one where its mark is set.
 pub lay-at : (ms : List Bool) (bs xs : List ℕ) (i : ℕ) → length ms ≡ length bs → i < length xs
-    → getD (layOf ms bs xs) i 0 ≡ oneOf (getD ms i false) (getD bs i 0) (getD xs i 0)
+    → getD (layOf ms bs xs) i 0 ≡ cond (getD ms i false) (getD bs i 0) (getD xs i 0)
 lay-at [] bs xs i e h = refl
 lay-at (m ∷ ms) [] xs i e h = absurd (omega arith)
 lay-at (m ∷ ms) (b ∷ bs) [] i e h = absurd (omega arith)
@@ -45,7 +44,7 @@ module _ (p : Place) (l : Load) (array : List ℕ) (a : Place) where
 
   -- From the page's first place on, the byte is that of the laying.
   pub store-from : length (l .marks) ≡ length (l .bytes) → firstOf p ≤ a .0 → a .0 < length array
-      → byteAt (storeOf p l array) a ≡ oneOf (getD (l .marks) (a .0 - firstOf p) false) (getD (l .bytes) (a .0 - firstOf p) 0) (byteAt array a)
+      → byteAt (storeOf p l array) a ≡ cond (getD (l .marks) (a .0 - firstOf p) false) (getD (l .bytes) (a .0 - firstOf p) 0) (byteAt array a)
   unfolding storeOf
   store-from e h n =
       let s : length (take (firstOf p) array) ≡ firstOf p = length-take-le (firstOf p) array (omega arith) in
@@ -58,12 +57,12 @@ module _ (p : Place) (l : Load) (array : List ℕ) (a : Place) where
   -- The byte at a after a store: in the store's page the loaded one where its mark is set, elsewhere the one that was there.
   pub store-at : length (l .marks) ≡ pageSize → length (l .bytes) ≡ pageSize → a .0 < length array
       → byteAt (storeOf p l array) a
-      ≡ oneOf (both (eqb (pageOf a) (pageOf p)) (getD (l .marks) (inPage a) false)) (getD (l .bytes) (inPage a) 0) (byteAt array a)
+      ≡ cond (eqb (pageOf a) (pageOf p) && getD (l .marks) (inPage a) false) (getD (l .bytes) (inPage a) 0) (byteAt array a)
   store-at m b n = go (ltb (a .0) (firstOf p)) (ltb (a .0) (firstOf p + pageSize)) refl refl
     where
       go : (u v : Bool) → ltb (a .0) (firstOf p) ≡ u → ltb (a .0) (firstOf p + pageSize) ≡ v
           → byteAt (storeOf p l array) a
-          ≡ oneOf (both (eqb (pageOf a) (pageOf p)) (getD (l .marks) (inPage a) false)) (getD (l .bytes) (inPage a) 0) (byteAt array a)
+          ≡ cond (eqb (pageOf a) (pageOf p) && getD (l .marks) (inPage a) false) (getD (l .bytes) (inPage a) 0) (byteAt array a)
       go true v e f =
           let h = ltb-true (a .0) (firstOf p) e in
           let d : pageOf a ≡ pageOf p → ⊥ = omega arith in

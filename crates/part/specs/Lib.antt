@@ -1,6 +1,3 @@
-pub mod Numbers
-pub mod Cases
-pub mod Kind
 pub mod Lock
 pub mod Timers
 pub mod Page

@@ -1,13 +1,12 @@
 -- Block lock (document 01, Control register).
 use Prim.Native.Nat.{ℕ, _+_, _*_, _/_, _%_}
-use mathlib.Core.Bool.{Bool}
+use mathlib.Core.Bool.{Bool, _&&_}
 use mathlib.Core.List.{List, [], _∷_}
 use lib.ListN.{getD}
 use lib.Dec.{leb, ltb}
-use Rattle.part.specs.Numbers.{pageSize}
+use Rattle.ground.specs.Numbers.{pageSize}
 use Rattle.part.specs.Page.{pageOf}
-use Rattle.part.specs.Cases.{both}
-use Rattle.part.specs.declared.kinds.Kind.{Kind}
+use Rattle.ground.specs.declared.kinds.Kind.{Kind}
 use Rattle.part.specs.declared.lock.Extent.{Extent}
 use Rattle.part.specs.declared.state.Place.{Place}
 
@@ -30,7 +29,7 @@ extentOf k code = getD (extentTable k) code (firstPages 0)
 
 -- Whether a page lies within an extent (Control register).
 abbrev pub within : Extent → ℕ → Bool
-within x page = both (leb (x .from) page) (ltb page (x .to))
+within x page = leb (x .from) page && ltb page (x .to)
 
 -- Whether a place lies in a block that the control byte locks (Control register; Bytes on the wire, array data).
 unfoldable pub lockedOf : Kind → ℕ → Place → Bool

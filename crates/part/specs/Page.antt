@@ -1,12 +1,12 @@
 -- Places, the page load and the store (document 01, State and time; Bytes on the wire).
 use Prim.Native.Nat.{ℕ, _+_, _*_, _/_, _%_}
-use mathlib.Core.Bool.{Bool, true, false}
+use mathlib.Core.Bool.{Bool, true, false, cond}
 use mathlib.Core.List.{List, [], _∷_, _++_}
 use lib.ListN.{take, drop, getD, set, replicate}
 use lib.Dec.{ltb}
-use Rattle.part.specs.Numbers.{pageSize}
-use Rattle.part.specs.Cases.{some, orZero}
-use Rattle.part.specs.declared.kinds.Kind.{Kind}
+use Rattle.ground.specs.Numbers.{pageSize}
+use Rattle.ground.specs.Cases.{orZero}
+use Rattle.ground.specs.declared.kinds.Kind.{Kind}
 use Rattle.part.specs.declared.state.BusAddress.{BusAddress}
 use Rattle.part.specs.declared.state.Load.{Load}
 use Rattle.part.specs.declared.state.Place.{Place}
@@ -47,25 +47,26 @@ byteAt array p = getD array (p .0) 0
 abbrev pub emptyLoad : Load
 emptyLoad = record { bytes = replicate pageSize 0; marks = replicate pageSize false }
 
+-- Whether any mark of a row is set (Bytes on the wire, stop).
+abbrev pub anyMarked : List Bool → Bool
+anyMarked [] = false
+anyMarked (true ∷ ms) = true
+anyMarked (false ∷ ms) = anyMarked ms
+
 -- Whether a loaded mark is set (Bytes on the wire, stop).
 abbrev pub marked : Load → Bool
-marked l = some (l .marks)
+marked l = anyMarked (l .marks)
 
 -- A byte put in the load at a place of its page (Bytes on the wire, array data).
 abbrev pub filledOf : Load → Place → ℕ → Load
 filledOf l p v = record { bytes = set (l .bytes) (inPage p) v; marks = set (l .marks) (inPage p) true }
 
--- The loaded byte where the mark is set, else the byte that is there (Bytes on the wire, stop).
-abbrev pub oneOf : Bool → ℕ → ℕ → ℕ
-oneOf true b x = b
-oneOf false b x = x
-
--- Marked bytes of a load over the bytes of a page; all others stay (Bytes on the wire, stop).
+-- Marked bytes of a load over the bytes of a page: the loaded byte where the mark is set, else the byte that is there (Bytes on the wire, stop).
 abbrev pub layOf : List Bool → List ℕ → List ℕ → List ℕ
 layOf [] bs xs = xs
 layOf (m ∷ ms) [] xs = xs
 layOf (m ∷ ms) (b ∷ bs) [] = []
-layOf (m ∷ ms) (b ∷ bs) (x ∷ xs) = oneOf m b x ∷ layOf ms bs xs
+layOf (m ∷ ms) (b ∷ bs) (x ∷ xs) = cond m b x ∷ layOf ms bs xs
 
 -- The array after the load went into the part that starts at the place's page (Bytes on the wire, stop).
 unfoldable pub storeOf : Place → Load → List ℕ → List ℕ

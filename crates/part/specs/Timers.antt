@@ -4,7 +4,7 @@ use mathlib.Core.Bool.{Bool, true, false}
 use mathlib.Core.List.{List, [], _∷_}
 use lib.ListN.{getD}
 use lib.Dec.{eqb, ltb}
-use Rattle.part.specs.Numbers.{resetHold, longWatch, middleWatch, shortWatch}
+use Rattle.ground.specs.Numbers.{resetHold, longWatch, middleWatch, shortWatch}
 use Rattle.part.specs.declared.state.Timers.{Timers}
 use Rattle.part.specs.declared.state.Watchdog.{Watchdog}
 

@@ -1,5 +1,5 @@
 // Block lock: which pages a control byte locks.
-use crate::kinds::Kind;
+use ground::kinds::Kind;
 use crate::state::PAGE;
 use crate::state::Place;
 ghost use mathlib.Core.Path.{_≡_};
@@ -42,5 +42,5 @@ pub fn locked(kind: Kind, stored: u8, place: Place) -> bool
 {
     let e = extent_of(kind, block_code(stored));
     let page = place.0 / PAGE;
-    if e.from <= page { page < e.to } else { false }
+    (e.from <= page) & (page < e.to)
 }

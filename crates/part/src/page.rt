@@ -1,14 +1,13 @@
 // The page load, the places it fills, and its way into the array.
-use crate::kinds::Kind;
+use ground::kinds::Kind;
 use crate::state::BusAddress;
 use crate::state::Load;
 use crate::state::PAGE;
 use crate::state::Place;
 ghost use mathlib.Core.Path.{_≡_};
-ghost use mathlib.Core.Bool.{Bool};
+ghost use mathlib.Core.Bool.{Bool, cond};
 ghost use lib.ListN.{getD, set};
-ghost use Rattle.part.specs.Cases.{some};
-ghost use Rattle.part.specs.Page.{placeOf, nextInPage, nextInArray, byteAt, emptyLoad, filledOf, oneOf, layOf, storeOf};
+ghost use Rattle.part.specs.Page.{placeOf, nextInPage, nextInArray, byteAt, emptyLoad, filledOf, layOf, storeOf, anyMarked};
 
 // The place that a bus address names: as many low bits as the array has.
 pub fn place_of(kind: Kind, address: BusAddress) -> Place
@@ -68,7 +67,7 @@ pub fn filled(load: Load, place: Place, byte: u8) -> Load
 
 // Whether any byte has come.
 pub fn marked(marks: [bool; 64]) -> bool
-    ensures { λ r. ⌜ r ≡ some marks ⌝ }
+    ensures { λ r. ⌜ r ≡ anyMarked marks ⌝ }
 {
     let mut i = 0;
     while i < 64 {
@@ -92,7 +91,7 @@ pub fn fetched(array: &[u8], place: Place) -> u8
 }
 
 fn put(page: &mut [u8], index: usize, mark: bool, byte: u8)
-    ensures { λ _. ⌜ now (page .exit) ≡ set (now (page .entry)) index (oneOf mark byte (getD (now (page .entry)) index 0)) ⌝ }
+    ensures { λ _. ⌜ now (page .exit) ≡ set (now (page .entry)) index (cond mark byte (getD (now (page .entry)) index 0)) ⌝ }
 {
     if mark {
         if index < page.len() {

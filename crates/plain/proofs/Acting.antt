@@ -1,12 +1,12 @@
 -- What the signs of plain samples do: at most talk, counter and load change. Assumes nothing.
 use Prim.Native.Nat.{ℕ, _*_, _%_, _<_, _≤_}
-use mathlib.Core.Bool.{Bool, true, false, not}
+use mathlib.Core.Bool.{Bool, true, false, not, _&&_}
 use mathlib.Core.List.{List}
 use mathlib.Core.Path.{_≡_, refl, sym, ap, subst, _∙_}
 use native.Mathlib.Omega.{arith}
 use borrow.Author.Tests.{lt-ltb, le-ltb, eq-eqb, ne-eqb}
-use Rattle.part.specs.Cases.{both, highest}
-use Rattle.part.specs.Kind.{kindOf}
+use Rattle.ground.specs.Cases.{highest}
+use Rattle.ground.specs.Kind.{kindOf}
 use Rattle.part.specs.Lock.{lockedOf}
 use Rattle.part.specs.Timers.{loadedOf, writes}
 use Rattle.part.specs.Page.{nextInPage, nextInArray, byteAt, filledOf, emptyLoad}
@@ -77,7 +77,7 @@ module _ (s : State) (array : List ℕ) (wp : Bool) (w : Wire) (f : Phase) (high
   unfolding byteStep byteOf keptOf
   byte-sent v h = record { state = λ t. rw (byte-by f, load-by f, h); kept = λ t. refl }
 
-  pub byte-taken : (v : ℕ) → wayOf f ≡ 2 → both (s .device .control .wel) (not (lockedOf (kindOf (s .part)) (s .device .control .stored) p)) ≡ true
+  pub byte-taken : (v : ℕ) → wayOf f ≡ 2 → (s .device .control .wel && not (lockedOf (kindOf (s .part)) (s .device .control .stored) p)) ≡ true
       → Acts s array wp (Byte v) w k p m (talkOf f 0 0 false) (nextInPage p) (filledOf m p v)
   unfolding byteStep byteOf keptOf takenOf
   byte-taken v h e = record { state = λ t. rw (way-two f h, e); kept = λ t. refl }

@@ -4,8 +4,8 @@ use mathlib.Core.Bool.{Bool, true, false}
 use mathlib.Core.List.{List}
 use mathlib.Core.Path.{_≡_, refl, sym, ap, _∙_}
 use lib.Dec.{ltb}
-use Rattle.part.specs.Cases.{orZero}
-use Rattle.part.specs.Kind.{kindOf}
+use Rattle.ground.specs.Cases.{orZero}
+use Rattle.ground.specs.Kind.{kindOf}
 use Rattle.part.specs.Timers.{timedOf, suppliedOf}
 use Rattle.part.specs.Page.{emptyLoad}
 use Rattle.part.specs.declared.state.Phase.the-variants.{Idle}

@@ -2,7 +2,7 @@
 use Prim.Native.Nat.{ℕ}
 use mathlib.Core.Bool.{Bool, true, false}
 use mathlib.Core.Path.{_≡_}
-use Rattle.part.specs.Numbers.{resetHold}
+use Rattle.ground.specs.Numbers.{resetHold}
 use Rattle.part.specs.declared.state.Control.{Control}
 use Rattle.part.specs.declared.state.Frame.{Frame}
 use Rattle.part.specs.declared.state.Phase.{Phase}

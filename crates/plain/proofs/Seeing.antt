@@ -1,11 +1,10 @@
 -- What a plain sample shows on the wire, by the levels before and now. Assumes nothing.
 use Prim.Native.Nat.{ℕ, _+_, _<_, _≤_}
-use mathlib.Core.Bool.{Bool, true, false, true≢false}
+use mathlib.Core.Bool.{Bool, true, false, true≢false, _||_}
 use mathlib.Core.Path.{_≡_, refl, sym, _∙_}
 use native.Mathlib.Omega.{arith}
 use lib.Dec.{ltb, eqb}
 use borrow.Author.Tests.{lt-ltb, le-ltb, eq-eqb, ne-eqb}
-use Rattle.part.specs.Cases.{either}
 use Rattle.part.specs.declared.state.Frame.{Frame}
 use Rattle.part.specs.declared.state.Wire.{Wire}
 use Rattle.wire.specs.Sign.{pushed, cleanFrame, fallSign, fallFrame, signOf, wireOf}
@@ -86,11 +85,11 @@ module _ (scl sda c d held bit : Bool) (bits shift : ℕ) where
   fall-ninth h k e g n =
       record { shown = rw (h, k, e, le-ltb bits 7 g, ne-eqb bits 7 n); left = rw (h, k, e, le-ltb bits 8 (omega arith)) }
 
-  low-by : (c : Bool) → Sees (wireAt false sda (frameOf held bit bits shift)) c d Quiet (wireAt c d (frameOf (either c held) (pickBy c d bit) bits shift))
+  low-by : (c : Bool) → Sees (wireAt false sda (frameOf held bit bits shift)) c d Quiet (wireAt c d (frameOf (c || held) (pickBy c d bit) bits shift))
   unfolding signOf wireOf
   low-by true = record { shown = refl; left = refl }
   low-by false = record { shown = refl; left = refl }
 
   -- SCL was low: a rise takes the bit, else nothing.
-  pub low-seen : scl ≡ false → Sees before c d Quiet (wireAt c d (frameOf (either c held) (pickBy c d bit) bits shift))
+  pub low-seen : scl ≡ false → Sees before c d Quiet (wireAt c d (frameOf (c || held) (pickBy c d bit) bits shift))
   low-seen h = rw h (low-by c)

@@ -9,8 +9,8 @@ use native.Mathlib.Nat.{sub-zero}
 use lib.Dec.{ltb}
 use lib.ListN.{length, getD, set}
 use borrow.Author.Tests.{lt-ltb}
-use Rattle.part.specs.Cases.{orZero}
-use Rattle.part.specs.Kind.{kindOf}
+use Rattle.ground.specs.Cases.{orZero}
+use Rattle.ground.specs.Kind.{kindOf}
 use Rattle.part.specs.declared.state.Timers.{Timers}
 use Rattle.part.specs.declared.state.Wire.{Wire}
 use Rattle.part.specs.declared.state.Talk.{Talk}

@@ -1,15 +1,15 @@
 -- A plain sample carries on what holds before each sample. Assumes nothing.
 use Prim.Native.Nat.{ℕ, zero, suc, _+_, _-_, _<_, _≤_}
-use mathlib.Core.Bool.{Bool, true, false}
+use mathlib.Core.Bool.{Bool, true, false, _&&_}
 use mathlib.Core.List.{List}
 use mathlib.Core.Path.{_≡_, refl, sym, ap, _∙_}
 use native.Mathlib.Omega.{arith}
 use native.Mathlib.Numerals.{add-one}
 use lib.Dec.{ltb}
 use lib.ListN.{length, getD, set}
-use Rattle.part.specs.Cases.{both, orZero}
+use Rattle.ground.specs.Cases.{orZero}
 use Rattle.part.specs.Timers.{loadedOf}
-use Rattle.part.specs.Kind.{kindOf}
+use Rattle.ground.specs.Kind.{kindOf}
 use Rattle.part.specs.declared.state.Timers.{Timers}
 use Rattle.part.specs.declared.state.Watchdog.{Watchdog}
 use Rattle.part.specs.declared.state.Wire.{Wire}
@@ -46,7 +46,7 @@ pub record Shown (s : State) (es ls array row₀ : List ℕ) (from base : ℕ) (
   pub soon : getD es i 0 < room
   pub good : vccOf (getD ls i 0) ≡ true
   pub clock : c ≡ sclOf (getD ls i 0)
-  pub line : d ≡ both (sdaOf (getD ls i 0)) (k .own)
+  pub line : d ≡ (sdaOf (getD ls i 0) && k .own)
 
 module _ {s : State} {es ls array row₀ : List ℕ} {from base : ℕ} {calm : Bool} {write : ℕ} {running : Bool} {left all room : ℕ} {w : Wire} {k : Talk} {p : Place} {m : Load} {row : List ℕ} {i : ℕ} {c d : Bool} (shown : Shown s es ls array row₀ from base calm write running left all room w k p m row i c d) where
   abbrev g : Stands s es ls array row₀ from base calm write running left all room w k p m row i

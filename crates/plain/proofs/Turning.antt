@@ -1,12 +1,12 @@
 -- One plain sample: what `stepOf` makes of it. Assumes nothing.
 use Prim.Native.Nat.{ℕ, _+_, _-_, _<_, _≤_}
-use mathlib.Core.Bool.{Bool, true, false, not}
+use mathlib.Core.Bool.{Bool, true, false, not, _&&_}
 use mathlib.Core.List.{List}
 use mathlib.Core.Path.{_≡_, refl, sym, ap, _∙_}
 use native.Mathlib.Omega.{arith}
 use lib.Dec.{eqb, ltb}
 use borrow.Author.Tests.{ne-eqb}
-use Rattle.part.specs.Cases.{both, orZero}
+use Rattle.ground.specs.Cases.{orZero}
 use Rattle.part.specs.Timers.{timedOf, suppliedOf}
 use Rattle.part.specs.declared.state.Timers.{Timers}
 use Rattle.part.specs.declared.state.Wire.{Wire}
@@ -49,7 +49,7 @@ module _ (s : State) (array : List ℕ) (e l : ℕ) (t t′ : Timers) (w w′ : 
 
   pub heard : (sign : Sign) (q : State) → vccOf l ≡ true
       → suppliedOf true (timedOf (s .device .control .stored) e t) ≡ t′ → t′ .reset ≡ false
-      → Sees w (sclOf l) (both (sdaOf l) (k .own)) sign w′
+      → Sees w (sclOf l) (sdaOf l && k .own) sign w′
       → heardBy sign (wpOf l) array (movedOf s t′ w′ k p m) ≡ q
       → writtenBy sign (movedOf s t′ w′ k p m) array ≡ array
       → partOf q array ≡ partStep e l (partOf (movedOf s t w k p m) array)

@@ -3,7 +3,7 @@ use Prim.Native.Nat.{ℕ, _+_, _-_, _≤_, _<_}
 use mathlib.Core.Bool.{Bool, true, false}
 use mathlib.Core.Path.{_≡_}
 use lib.Dec.{ltb}
-use Rattle.part.specs.Cases.{orZero}
+use Rattle.ground.specs.Cases.{orZero}
 use Rattle.part.specs.declared.state.Timers.{Timers}
 use Rattle.sample.specs.Level.{pinBy}
 

@@ -1,11 +1,10 @@
 -- What the loops ask of a state first, and of a phase.
 use Prim.Native.Nat.{ℕ}
-use mathlib.Core.Bool.{Bool, true, false, not}
+use mathlib.Core.Bool.{Bool, true, false, not, _||_}
 use mathlib.Core.List.{List, [], _∷_}
 use mathlib.Core.Path.{_≡_}
 use lib.Dec.{ltb}
-use Rattle.part.specs.Numbers.{resetHold}
-use Rattle.part.specs.Cases.{either}
+use Rattle.ground.specs.Numbers.{resetHold}
 use Rattle.part.specs.Page.{emptyLoad}
 use Rattle.part.specs.declared.state.Phase.{Phase}
 use Rattle.part.specs.declared.state.Phase.the-variants.{Idle, Silent, Slave, High, Low, Data, Register, Send, SendRegister}
@@ -22,7 +21,7 @@ use Rattle.sample.specs.Sample.{latchedBy}
 -- Some byte is not 0.
 abbrev pub someByte : List ℕ → Bool
 someByte [] = false
-someByte (b ∷ bs) = either (ltb 0 b) (someByte bs)
+someByte (b ∷ bs) = ltb 0 b || someByte bs
 
 -- How a phase takes a byte: not at all, as talk, as data for the array; or it sends the array, or the register.
 abbrev pub wayOf : Phase → ℕ

@@ -3,8 +3,7 @@ use crate::Went;
 use crate::moves;
 use crate::rooms;
 use crate::tests;
-use part::cases;
-use part::kinds;
+use ground::kinds;
 use part::page;
 use part::state::Frame;
 use part::state::Lines;
@@ -249,7 +248,7 @@ pub fn pass(
                     i += 1;
                     continue;
                 }
-                held = cases::either_holds(clock, held);
+                held = clock | held;
                 bit = moves::pick(clock, data, bit);
                 scl = clock;
                 sda = data;

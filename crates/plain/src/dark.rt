@@ -1,7 +1,7 @@
 // Samples with VCC low, reset going on.
 use crate::Went;
 use crate::rooms;
-use part::kinds;
+use ground::kinds;
 use part::state::Lines;
 use part::state::State;
 use part::timers;

@@ -1,7 +1,7 @@
 // The small steps that the loop in `awake` is made of.
 use crate::Went;
 use crate::rooms;
-use part::kinds::Kind;
+use ground::kinds::Kind;
 use part::lock;
 use part::state::Control;
 use part::state::Frame;
@@ -16,10 +16,10 @@ use part::state::Watchdog;
 use part::state::Wire;
 use part::timers;
 ghost use mathlib.Core.Path.{_≡_};
-ghost use mathlib.Core.Bool.{Bool, not};
+ghost use mathlib.Core.Bool.{Bool, not, _&&_};
 ghost use Prim.Native.Nat.{_-_, _*_, _%_};
 ghost use lib.Dec.{ltb};
-ghost use Rattle.part.specs.Cases.{both, highest};
+ghost use Rattle.ground.specs.Cases.{highest};
 ghost use Rattle.part.specs.Lock.{lockedOf};
 ghost use Rattle.device.specs.Ends.{startPhase};
 ghost use Rattle.plain.specs.Rooms.{timersAt};
@@ -71,7 +71,7 @@ pub fn top(out: u8) -> bool
 
 // Whether an array byte is taken.
 pub fn takes(kind: Kind, control: Control, place: Place) -> bool
-    ensures { λ r. ⌜ r ≡ both (control .wel) (not (lockedOf kind (control .stored) place)) ⌝ }
+    ensures { λ r. ⌜ r ≡ (control .wel && not (lockedOf kind (control .stored) place)) ⌝ }
 {
     if control.wel {
         return !lock::locked(kind, control.stored, place);

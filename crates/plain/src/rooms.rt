@@ -1,11 +1,11 @@
 // Time while no timer ends, and the answer byte.
-use part::cases;
+use ground::cases;
 use part::timers;
 use sample::answers;
 ghost use mathlib.Core.Path.{_≡_};
 ghost use mathlib.Core.Bool.{Bool};
 ghost use Prim.Native.Nat.{_+_, _≤_};
-ghost use Rattle.part.specs.Cases.{orZero};
+ghost use Rattle.ground.specs.Cases.{orZero};
 ghost use Rattle.plain.specs.Rooms.{Room, leftBy, baseOf};
 
 // Where no timer runs any time would do; this one outlasts most captures.

@@ -1,5 +1,4 @@
 // What the loops ask of a state first, and of a phase.
-use part::cases;
 use part::state::Control;
 use part::state::Frame;
 use part::state::Load;
@@ -11,8 +10,7 @@ use part::timers;
 ghost use mathlib.Core.Path.{_≡_};
 ghost use mathlib.Core.Bool.{Bool, true, false};
 ghost use lib.ListN.{length};
-ghost use Rattle.part.specs.Cases.{some};
-ghost use Rattle.part.specs.Page.{emptyLoad};
+ghost use Rattle.part.specs.Page.{emptyLoad, anyMarked};
 ghost use Rattle.part.specs.declared.state.Phase.the-variants.{Idle};
 ghost use Rattle.wire.specs.Sign.{cleanFrame};
 ghost use Rattle.device.specs.Talk.{rested};
@@ -22,13 +20,13 @@ ghost use Rattle.plain.specs.Tests.{someByte, wayOf, Calm, heldAt, Dark}
 
 // Both searches go through to the end: they then take 16 elements at a time.
 fn some_mark(marks: [bool; 64]) -> bool
-    ensures found { λ r. ⌜ r ≡ some marks ⌝ }
+    ensures found { λ r. ⌜ r ≡ anyMarked marks ⌝ }
     ensures long { λ _. ⌜ length marks ≡ 64 ⌝ }
 {
     let mut any = false;
     let mut i = 0;
     while i < 64 {
-        any = cases::either_holds(any, marks[i]);
+        any = any | marks[i];
         i += 1;
     }
     any
@@ -41,7 +39,7 @@ fn some_byte(bytes: [u8; 64]) -> bool
     let mut any = false;
     let mut i = 0;
     while i < 64 {
-        any = cases::either_holds(any, 0 < bytes[i]);
+        any = any | (0 < bytes[i]);
         i += 1;
     }
     any

@@ -9,17 +9,15 @@ use lib.ListN.{length, getD, drop, drop-of-length-le}
 use lib.Seq.{drop-cons}
 use borrow.Author.Count.{below-more}
 use borrow.Author.Tests.{lt-ltb, le-leb, eqb-true}
-use Rattle.part.specs.Numbers.{mostElapsed, mostLevel, mostSamples}
-use Rattle.part.specs.Kind.{kindOf}
+use Rattle.ground.specs.Numbers.{mostElapsed, mostLevel, mostSamples}
+use Rattle.ground.specs.Kind.{kindOf}
 use Rattle.part.specs.declared.state.State.{State}
-use Rattle.refusals.specs.Refusals.{Verdict, accepted, refused, meant, sampleBy, samplesOf, judgedBy, judgedOf, inRange}
+use Rattle.ground.specs.Verdict.{Verdict, accepted, refused, meant}
+use Rattle.refusals.specs.Refusals.{sampleBy, samplesOf, judgedBy, judgedOf, inRange}
+use Rattle.ground.proofs.Verdicts.{apart}
 use Rattle.refusals.specs.Search.{AtMost}
-use Rattle.refusals.specs.declared.Reply.{Reply}
-use Rattle.refusals.specs.declared.Reply.the-variants.{Accepted, Refused}
-
--- A number that is not 0 passes the test for more than 0.
-pub not-zero : (n : ℕ) → (n ≡ 0 → ⊥) → ltb 0 n ≡ true
-not-zero n h = lt-ltb 0 n (omega arith)
+use Rattle.ground.specs.declared.Reply.{Reply}
+use Rattle.ground.specs.declared.Reply.the-variants.{Accepted, Refused}
 
 -- One sample judged: what the rest says stands behind it.
 pub samples-turn : (es ls : List ℕ) (i : ℕ) (v : Verdict) → i < length es → i < length ls
@@ -30,19 +28,6 @@ samples-turn es ls i v h k = rw (drop-cons es i 0 h, drop-cons ls i 0 k)
 -- Nothing is left to judge past the rows' end.
 pub samples-done : (es ls : List ℕ) (i : ℕ) (v : Verdict) → length es ≤ i → samplesOf i (drop i es) (drop i ls) v ≡ v
 samples-done es ls i v h = rw (drop-of-length-le es h)
-
--- What a reply means, by its case.
-pub is-accepted : (r : Reply) (v : Verdict) (n : ℕ) → meant r ≡ v → r ≡ Accepted n → v ≡ accepted n
-unfolding meant
-is-accepted r v n e f = sym e ∙ ap meant f
-
-pub is-refused : (r : Reply) (v : Verdict) (k p : ℕ) → meant r ≡ v → r ≡ Refused k p → v ≡ refused k p
-unfolding meant
-is-refused r v k p e f = sym e ∙ ap meant f
-
--- A refusal is no acceptance.
-pub apart : (k p n : ℕ) → refused k p ≡ accepted n → ⊥
-apart k p n e = let z : _≡_ {A = ℕ} 0 1 = cc in omega arith
 
 -- An accepted replay has passed the tests of refusals 6 and 8.
 passed : (a b d e f : Bool) (v : Verdict) (n : ℕ) → judgedBy a b d e f v ≡ accepted n → (d ≡ true) × (f ≡ true)

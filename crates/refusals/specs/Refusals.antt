@@ -1,30 +1,15 @@
 -- What is refused, with its number and place (document 01, Refusal numbers; State and time, ranges and power-up).
 use Prim.Native.Nat.{ℕ, _+_}
-use mathlib.Core.Bool.{Bool, true, false}
+use mathlib.Core.Bool.{Bool, true, false, _&&_}
 use mathlib.Core.List.{List, [], _∷_}
 use lib.ListN.{length}
 use lib.Dec.{eqb, leb, ltb}
-use Rattle.part.specs.Numbers.{writeTime, resetHold, longWatch, mostSelect, mostBits, mostElapsed, mostLevel, mostSamples}
-use Rattle.part.specs.Cases.{both, middle}
-use Rattle.part.specs.Kind.{kindOf, known}
+use Rattle.ground.specs.Numbers.{writeTime, resetHold, longWatch, mostSelect, mostBits, mostElapsed, mostLevel, mostSamples}
+use Rattle.ground.specs.Cases.{middle}
+use Rattle.ground.specs.Kind.{kindOf, known}
 use Rattle.part.specs.declared.state.State.{State}
 use Rattle.part.specs.declared.state.Timers.{Timers}
-use Rattle.refusals.specs.declared.Reply.{Reply}
-use Rattle.refusals.specs.declared.Reply.the-variants.{Accepted, Refused}
-
--- The paper's answers: acceptance with a count, or a refusal number with its place (What goes in and what comes out).
-pub data Verdict : Type 0 where
-  accepted : ℕ → Verdict
-  refused : ℕ → ℕ → Verdict
-
--- What each case of a reply says in the paper's numbers (Refusal numbers).
-unfoldable pub meant : Reply → Verdict
-meant (Accepted n) = accepted n
-meant (Refused k p) = refused k p
-
--- Refusal 1: the number names no part (Refusal numbers, 1).
-abbrev pub noPart : Verdict
-noPart = refused 1 0
+use Rattle.ground.specs.Verdict.{Verdict, accepted, refused, noPart}
 
 -- Bits 1 and 2 of a stored control byte are clear (Refusal numbers, 3; State and time, ranges).
 abbrev pub storable : ℕ → Bool
@@ -32,17 +17,17 @@ storable v = eqb (middle v) 0
 
 -- The three ranges of times: write time, reset hold and watchdog left (State and time, ranges).
 abbrev pub timersInRange : Timers → Bool
-timersInRange t = both (leb (t .write) writeTime) (both (leb (t .hold) resetHold) (leb (t .watchdog .left) longWatch))
+timersInRange t = leb (t .write) writeTime && (leb (t .hold) resetHold && leb (t .watchdog .left) longWatch)
 
 -- The eight ranges: counter, bits, three times, part, select, stored byte (State and time, ranges).
 unfoldable pub inRange : State → Bool
 inRange s =
-    both (ltb (s .device .counter .0) (kindOf (s .part) .size))
-    (both (leb (s .wire .frame .bits) mostBits)
-    (both (timersInRange (s .timers))
-    (both (known (s .part))
-    (both (leb (s .select) mostSelect)
-    (storable (s .device .control .stored))))))
+    ltb (s .device .counter .0) (kindOf (s .part) .size)
+    && (leb (s .wire .frame .bits) mostBits
+    && (timersInRange (s .timers)
+    && (known (s .part)
+    && (leb (s .select) mostSelect
+    && storable (s .device .control .stored)))))
 
 -- Refusals 9 and 10 at one sample, in this order; otherwise what the later samples say (Refusal numbers).
 abbrev pub sampleBy : Bool → Bool → ℕ → Verdict → Verdict

@@ -1,6 +1,5 @@
 // The ranges of a state's fields.
-use part::cases;
-use part::kinds;
+use ground::kinds;
 use part::state::State;
 use part::state::Timers;
 use part::timers;
@@ -22,11 +21,8 @@ fn times_in_range(t: Timers) -> bool
     ensures { λ r. ⌜ r ≡ timersInRange t ⌝ }
 {
     let watchdog = t.watchdog;
-    let hold = cases::both_hold(
-        t.hold <= timers::RESET_HOLD,
-        watchdog.left <= timers::LONG_WATCH,
-    );
-    cases::both_hold(t.write <= timers::WRITE_TIME, hold)
+    (t.write <= timers::WRITE_TIME)
+        & ((t.hold <= timers::RESET_HOLD) & (watchdog.left <= timers::LONG_WATCH))
 }
 
 pub fn in_range(s: State) -> bool
@@ -38,10 +34,9 @@ pub fn in_range(s: State) -> bool
     let control = device.control;
     let wire = s.wire;
     let frame = wire.frame;
+    let times = times_in_range(s.timers);
     let stored = is_storable(control.stored);
-    let select = cases::both_hold(s.select <= MOST_SELECT, stored);
-    let part = cases::both_hold(0 < kind.size, select);
-    let times = cases::both_hold(times_in_range(s.timers), part);
-    let bits = cases::both_hold(frame.bits <= MOST_BITS, times);
-    cases::both_hold(counter.0 < kind.size, bits)
+    (counter.0 < kind.size)
+        & ((frame.bits <= MOST_BITS)
+            & (times & ((0 < kind.size) & ((s.select <= MOST_SELECT) & stored))))
 }

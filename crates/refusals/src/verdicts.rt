@@ -1,12 +1,13 @@
 // Refusals 1 to 3 of a power-up, and 4 to 10 of a replay.
-use crate::Reply;
+use ground::Reply;
 use crate::ranges;
-use part::kinds;
+use ground::kinds;
 use part::state::State;
 ghost use mathlib.Core.Path.{_≡_};
 ghost use Prim.Native.Nat.{_≤_};
 ghost use lib.ListN.{length};
-ghost use Rattle.refusals.specs.Refusals.{accepted, meant, powerOf, samplesOf, judgedOf};
+ghost use Rattle.ground.specs.Verdict.{accepted, meant};
+ghost use Rattle.refusals.specs.Refusals.{powerOf, samplesOf, judgedOf};
 ghost use Rattle.refusals.specs.Search.{AtMost};
 
 pub const MOST_ELAPSED: u32 = 100_000;
@@ -21,15 +22,15 @@ pub fn power(part: u16, select: u8, stored: u8) -> Reply
 {
     let kind = kinds::kind_of(part);
     if kind.size == 0 {
-        return Reply::Refused(1, 0);
+        return Reply::Refused { number: 1, place: 0 };
     }
     if select > ranges::MOST_SELECT {
-        return Reply::Refused(2, 0);
+        return Reply::Refused { number: 2, place: 0 };
     }
     if ranges::is_storable(stored) {
         return Reply::Accepted(0);
     }
-    Reply::Refused(3, 0)
+    Reply::Refused { number: 3, place: 0 }
 }
 
 // The earliest faulty sample of two rows of one length, or acceptance with that length.
@@ -40,10 +41,10 @@ fn faults(elapsed: &[u32], levels: &[u8]) -> Reply
     let mut i = 0;
     while i < levels.len() {
         if elapsed[i] > MOST_ELAPSED {
-            return Reply::Refused(9, i);
+            return Reply::Refused { number: 9, place: i };
         }
         if levels[i] > MOST_LEVEL {
-            return Reply::Refused(10, i);
+            return Reply::Refused { number: 10, place: i };
         }
         i += 1;
     }
@@ -116,18 +117,18 @@ pub fn judge(s: State, elapsed: &[u32], levels: &[u8], array: &[u8], answers: &[
     let kind = kinds::kind_of(s.part);
     if ranges::in_range(s) {
         if array.len() != kind.size as usize {
-            return Reply::Refused(5, 0);
+            return Reply::Refused { number: 5, place: 0 };
         }
         if elapsed.len() != levels.len() {
-            return Reply::Refused(6, 0);
+            return Reply::Refused { number: 6, place: 0 };
         }
         if levels.len() > MOST_SAMPLES {
-            return Reply::Refused(7, 0);
+            return Reply::Refused { number: 7, place: 0 };
         }
         if answers.len() != levels.len() {
-            return Reply::Refused(8, 0);
+            return Reply::Refused { number: 8, place: 0 };
         }
         return samples(elapsed, levels);
     }
-    Reply::Refused(4, 0)
+    Reply::Refused { number: 4, place: 0 }
 }

@@ -1,8 +1,8 @@
 -- Level bytes in, answer bytes out (document 01, What goes in and what comes out).
 use Prim.Native.Nat.{ℕ, _+_, _/_}
 use mathlib.Core.Bool.{Bool, true, false, not}
-use Rattle.part.specs.Cases.{orZero, odd}
-use Rattle.part.specs.Kind.{kindOf}
+use Rattle.ground.specs.Cases.{orZero, odd}
+use Rattle.ground.specs.Kind.{kindOf}
 use Rattle.part.specs.Timers.{writes}
 use Rattle.part.specs.declared.state.State.{State}
 

@@ -1,10 +1,9 @@
 -- One sample, in the order of its four rules (document 01, State and time).
 use Prim.Native.Nat.{ℕ}
-use mathlib.Core.Bool.{Bool, true, false}
+use mathlib.Core.Bool.{Bool, true, false, _&&_}
 use mathlib.Core.List.{List}
-use Rattle.part.specs.Numbers.{writeTime}
-use Rattle.part.specs.Cases.{both}
-use Rattle.part.specs.Kind.{kindOf}
+use Rattle.ground.specs.Numbers.{writeTime}
+use Rattle.ground.specs.Kind.{kindOf}
 use Rattle.part.specs.Timers.{loadedOf, writes, timedOf, suppliedOf}
 use Rattle.part.specs.Page.{emptyLoad, marked, storeOf}
 use Rattle.part.specs.declared.state.Timers.{Timers}
@@ -131,7 +130,7 @@ writtenBy (Ninth b) s array = array
 
 -- The SDA line: the outside level AND the part's own as the sample before left it (State and time, 4).
 abbrev pub lineOf : ℕ → State → Bool
-lineOf level s = both (sdaOf level) (s .device .talk .own)
+lineOf level s = sdaOf level && s .device .talk .own
 
 -- What is seen in a sample, while reset is inactive: the sign of SCL and the SDA line (State and time, 4).
 unfoldable pub seenOf : ℕ → State → Sign

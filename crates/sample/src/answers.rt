@@ -1,10 +1,9 @@
 // Level bytes in, answer bytes out.
-use part::cases;
-use part::kinds;
+use ground::cases;
+use ground::kinds;
 use part::state::State;
 ghost use mathlib.Core.Path.{_≡_};
-ghost use mathlib.Core.Bool.{Bool};
-ghost use Rattle.part.specs.Cases.{both};
+ghost use mathlib.Core.Bool.{Bool, _&&_};
 ghost use Rattle.sample.specs.Level.{sclOf, sdaOf, wpOf, vccOf, pinBy, answerOf};
 
 pub fn scl(level: u8) -> bool
@@ -34,12 +33,9 @@ pub fn sda(level: u8) -> bool
 
 // The SDA line: low if either side pulls it low.
 pub fn line(level: u8, own: bool) -> bool
-    ensures { λ r. ⌜ r ≡ both (sdaOf level) own ⌝ }
+    ensures { λ r. ⌜ r ≡ (sdaOf level && own) ⌝ }
 {
-    if sda(level) {
-        return own;
-    }
-    false
+    sda(level) & own
 }
 
 // The RESET pin.

@@ -3,7 +3,7 @@ use crate::answers;
 use device::bits;
 use device::bytes;
 use device::ends;
-use part::kinds;
+use ground::kinds;
 use part::page;
 use part::state::Control;
 use part::state::Lines;

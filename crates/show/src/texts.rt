@@ -30,7 +30,7 @@ fn put_hex(byte: u8) {
 pub fn put_refusal(reply: Reply) {
     match reply {
         Reply::Accepted(_) => {}
-        Reply::Refused(number, place) => {
+        Reply::Refused { number, place } => {
             put(b"refused ");
             put_decimal(number as u64);
             put(b" at ");

@@ -8,7 +8,7 @@ use lib.ListN.{length, take, drop}
 use lib.Seq.{sets-eq, take-all, drop-drop, length-take-le}
 use borrow.Author.Tests.{lt-ltb, le-ltb}
 use Rattle.io.specs.Digits.{glyph, digits, Fewest}
-use Rattle.part.proofs.Laws.{part-back}
+use Rattle.ground.proofs.Rows.{part-back}
 use Rattle.hexfile.specs.Digits.{glyphOf}
 use Rattle.tidying.specs.Shown.{decimalIn, decimalOf, Lays}
 

@@ -7,15 +7,15 @@ use native.Mathlib.Nat.{zero-add}
 use lib.ListN.{length, drop, set, length-append}
 use lib.Seq.{sets, sets-eq, length-sets, length-take-le}
 use borrow.Author.Tests.{eq-eqb, le-leb}
-use Rattle.refusals.specs.Refusals.{accepted, refused}
-use Rattle.refusals.specs.declared.Reply.{Reply}
-use Rattle.refusals.specs.declared.Reply.the-variants.{Accepted, Refused}
-use Rattle.refusals.proofs.Laws.{is-accepted, is-refused, apart}
+use Rattle.ground.specs.Verdict.{accepted, refused}
+use Rattle.ground.specs.declared.Reply.{Reply}
+use Rattle.ground.specs.declared.Reply.the-variants.{Accepted, Refused}
+use Rattle.ground.proofs.Verdicts.{is-accepted, is-refused, apart}
 use Rattle.image.specs.Form.{imageSize}
 use Rattle.image.specs.Reading.{Reading, taken, bad, readingOf}
 use Rattle.image.specs.Writing.{imageText, lengthOf, mostLength}
 use Rattle.image.specs.Promises.{imageOf, verdictOf, arrayAfter, writeVerdict, ReadsImage, WritesImage}
-use Rattle.part.proofs.Rows.{sets-append}
+use Rattle.ground.proofs.Rows.{sets-append}
 use Rattle.image.proofs.Laid.{length-image}
 use Rattle.tidying.specs.Shown.{decimalOf, refusalLine, shownOf, Starts, Lays}
 

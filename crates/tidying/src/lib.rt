@@ -53,7 +53,7 @@ fn put_image(array: &[u8], out: &mut [u8]) -> usize
     let reply = image::write_image(array, out);
     match reply {
         Reply::Accepted(length) => length,
-        Reply::Refused(number, place) => put_refusal(number, place, out),
+        Reply::Refused { number, place } => put_refusal(number, place, out),
     }
 }
 
@@ -66,7 +66,7 @@ fn put_text(text: &[u8], array: &mut [u8], out: &mut [u8]) -> usize
     let reply = image::read_image(text, array);
     match reply {
         Reply::Accepted(_) => put_image(array, out),
-        Reply::Refused(number, place) => put_refusal(number, place, out),
+        Reply::Refused { number, place } => put_refusal(number, place, out),
     }
 }
 

@@ -9,7 +9,7 @@ use lib.Dec.{ltb}
 use lib.ListN.{length, getD, drop, set, length-append, length-map, length-drop}
 use lib.Seq.{sets, set-out, drop-cons}
 use borrow.Author.Tests.{ltb-true, ltb-false, lt-ltb, le-ltb}
-use Rattle.part.proofs.Rows.{sets-append}
+use Rattle.ground.proofs.Rows.{sets-append}
 use Rattle.sample.specs.Run.{Part, partStep, runOf}
 use Rattle.transfers.specs.Transfers.{Placed, placedAt, entriesOf, numberOf, laidFrom, sampleSays}
 use Rattle.transfers.specs.Promises.{Says}

@@ -2,7 +2,7 @@
 // resets, each a number with the place of its sample.
 pub mod tags;
 
-use part::cases;
+use ground::cases;
 use part::state::Phase;
 use part::state::State;
 use sample::answers;

@@ -1,14 +1,14 @@
 -- The part at power-up, and its size (document 01, State and time; Refusal numbers).
 use Prim.Native.Nat.{ℕ}
 use mathlib.Core.Bool.{Bool, true, false}
-use Rattle.part.specs.Numbers.{x4323, resetHold}
+use Rattle.ground.specs.Numbers.{x4323, resetHold}
 use Rattle.part.specs.Timers.{off}
 use Rattle.part.specs.Page.{at, emptyLoad}
 use Rattle.part.specs.declared.state.Phase.the-variants.{Idle}
 use Rattle.part.specs.declared.state.State.{State}
 use Rattle.wire.specs.Sign.{cleanFrame}
 use Rattle.device.specs.Talk.{rested}
-use Rattle.refusals.specs.Refusals.{Verdict, accepted, refused, noPart}
+use Rattle.ground.specs.Verdict.{Verdict, accepted, refused, noPart}
 use Rattle.twin.specs.declared.power.Size.{Size}
 use Rattle.twin.specs.declared.power.Size.the-variants.{Bytes, Unknown}
 

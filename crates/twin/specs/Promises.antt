@@ -3,13 +3,14 @@
 use Prim.Native.Nat.{ℕ}
 use mathlib.Core.List.{List}
 use mathlib.Core.Path.{_≡_}
-use Rattle.part.specs.Kind.{kindOf, known}
+use Rattle.ground.specs.Kind.{kindOf, known}
 use Rattle.part.specs.declared.state.State.{State}
 use Rattle.control.specs.Register.{readsOf}
 use Rattle.twin.specs.declared.replays.Replayed.{Replayed}
 use Rattle.twin.specs.declared.power.Size.{Size}
 use Rattle.sample.specs.Run.{Part, runOf, answersOf}
-use Rattle.refusals.specs.Refusals.{Verdict, accepted, refused, meant, judgedOf, powerOf}
+use Rattle.ground.specs.Verdict.{Verdict, accepted, refused, meant}
+use Rattle.refusals.specs.Refusals.{judgedOf, powerOf}
 use Rattle.twin.specs.Power.{powerState, sizeMeant, sizeBy}
 
 -- Power-up: its verdict, and the state beside it (Refusal numbers, 1 to 3; State and time, power-up).

@@ -8,6 +8,6 @@ pub use power::Size;
 pub use power::power_up;
 pub use power::register;
 pub use power::size_of;
-pub use refusals::Reply;
+pub use ground::Reply;
 pub use replays::Replayed;
 pub use replays::replay;

@@ -6,8 +6,8 @@ use mathlib.Core.Path.{_≡_, refl, ap, sym, _∙_}
 use native.Mathlib.Omega.{arith}
 use native.Mathlib.Nat.{div-div-eq-div-mul}
 use borrow.Author.Tests.{lt-ltb, eqb-true, eqb-false}
-use Rattle.part.specs.Numbers.{mostBits}
-use Rattle.part.specs.Cases.{odd}
+use Rattle.ground.specs.Numbers.{mostBits}
+use Rattle.ground.specs.Cases.{odd}
 use Rattle.part.specs.declared.state.Frame.{Frame}
 use Rattle.part.specs.declared.state.Wire.{Wire}
 use Rattle.wire.specs.Sign.{pushed, cleanFrame, fallSign, fallFrame, signOf, wireOf}

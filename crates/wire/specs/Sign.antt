@@ -2,8 +2,8 @@
 use Prim.Native.Nat.{ℕ, _+_, _-_, _*_, _%_}
 use mathlib.Core.Bool.{Bool, true, false}
 use lib.Dec.{ltb, eqb}
-use Rattle.part.specs.Numbers.{mostBits, byteValues}
-use Rattle.part.specs.Cases.{orZero}
+use Rattle.ground.specs.Numbers.{mostBits, byteValues}
+use Rattle.ground.specs.Cases.{orZero}
 use Rattle.part.specs.declared.state.Frame.{Frame}
 use Rattle.part.specs.declared.state.Wire.{Wire}
 use Rattle.wire.specs.declared.Sign.{Sign}

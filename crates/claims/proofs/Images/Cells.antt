@@ -9,7 +9,7 @@ use lib.Dec.{ltb}
 use lib.ListN.{length, replicate, length-append, length-take, length-drop, replicate-append-replicate}
 use lib.Seq.{take-at, drop-at}
 use borrow.Author.Tests.{lt-ltb}
-use Rattle.part.specs.Numbers.{byteValues}
+use Rattle.ground.specs.Numbers.{byteValues}
 use Rattle.hexfile.specs.Cells.{notGiven, byteBy, settledOf, blankOf}
 use Rattle.hexfile.proofs.CellLaws.{length-giveOf, settled-none, give-front, blank-same}
 use Rattle.image.specs.Form.{rowSize, addressOf, dataOf}

@@ -10,9 +10,8 @@ use lib.ListN.{length}
 use borrow.Author.Tests.{leb-true, eqb-true}
 use Rattle.hexfile.specs.Pairs.{sumsToZero}
 use Rattle.hexfile.specs.Cells.{settledOf}
-use Rattle.part.proofs.Laws.{both-split}
-use Rattle.image.specs.Form.{rowSize, dataType, endType, bytesOf, countOf, addressOf, typeOf}
-use Rattle.image.specs.Form.{wellFormed, typeBy, typed, inside}
+use Rattle.ground.proofs.Tests.{and-split}
+use Rattle.image.specs.Form.{rowSize, dataType, endType, bytesOf, countOf, addressOf, typeOf, wellFormed, typeBy, typed, inside}
 use Rattle.image.specs.Reading.{Heard, gives, ends, faulty, saysBy, recordSays, saysOf, fresh, Reading, taken, bad, lineBy}
 
 -- The last line of a text that gives an array ends it, and the array is what the cells settle to.
@@ -64,7 +63,7 @@ heeds cells l e =
 -- Tests of a type that is taken and is not that of data: neither count nor address.
 bareBy : (a b c d : Bool) → typeBy a b c d ≡ true → a ≡ false → (c ≡ true) × (d ≡ true)
 bareBy true b c d e f = absurd (true≢false f)
-bareBy false true c d e f = both-split c d e
+bareBy false true c d e f = and-split c d e
 bareBy false false c d e f = absurd (true≢false (cc))
 
 module _ (bs : List ℕ) (t : typed bs ≡ true) where

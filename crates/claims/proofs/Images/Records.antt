@@ -2,23 +2,21 @@
 -- count, address, type and data are the record's; so a data record gives its bytes where none were given, and the end
 -- record ends the image. Assumes nothing.
 use Prim.Native.Nat.{ℕ, suc, _+_, _*_, _/_, _%_, _<_, _≤_}
-use mathlib.Core.Bool.{Bool, true, false}
+use mathlib.Core.Bool.{Bool, true, false, _||_}
 use mathlib.Core.List.{List, [], _∷_, _++_, append-assoc}
 use mathlib.Core.Path.{_≡_, refl, sym}
 use native.Mathlib.Omega.{arith}
 use lib.ListN.{length, drop, length-append}
 use lib.Seq.{take-append-seam}
 use borrow.Author.Tests.{lt-ltb, le-leb, eq-eqb}
-use Rattle.part.specs.Cases.{either}
-use Rattle.part.specs.Numbers.{byteValues}
+use Rattle.ground.specs.Numbers.{byteValues}
 use Rattle.hexfile.specs.Digits.{digitOf, glyphOf}
 use Rattle.hexfile.specs.Lines.{lineFeed, linesOf, trimmed}
 use Rattle.hexfile.specs.Pairs.{textOf, sumsToZero, checkOf}
 use Rattle.hexfile.specs.Cells.{freshOf}
 use Rattle.hexfile.proofs.LineLaws.{line-ends}
 use Rattle.hexfile.proofs.PairLaws.{length-textOf}
-use Rattle.image.specs.Form.{colon, dataType, endType, charactersIn, bytesOf, countOf, addressOf, typeOf, dataOf}
-use Rattle.image.specs.Form.{wellFormed, typed, inside}
+use Rattle.image.specs.Form.{colon, dataType, endType, charactersIn, bytesOf, countOf, addressOf, typeOf, dataOf, wellFormed, typed, inside}
 use Rattle.image.specs.Reading.{gives, ends, fresh, recordSays, saysOf}
 use Rattle.image.specs.Writing.{fieldsOf, recordText}
 use Rattle.claims.specs.RoundTrip.{allBytes, noReturn, endsInFeed}
@@ -52,7 +50,7 @@ line-formed bs e h =
     )
 
 -- One of two tests holds if the second does.
-either-true : (a : Bool) → either a true ≡ true
+either-true : (a : Bool) → (a || true) ≡ true
 either-true true = refl
 either-true false = refl
 

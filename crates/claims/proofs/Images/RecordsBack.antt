@@ -1,7 +1,7 @@
 -- A line that is well formed and whose bytes sum to 0 modulo 256 is, with its line feed, the record that the writer
 -- makes of the address, the type and the data that the line states. Assumes nothing.
 use Prim.Native.Nat.{ℕ, suc, _+_, _*_, _/_, _%_, _<_}
-use mathlib.Core.Bool.{true, true≢false}
+use mathlib.Core.Bool.{true, true≢false, _&&_}
 use mathlib.Core.List.{List, [], _∷_, _++_}
 use mathlib.Core.Path.{_≡_, ap, sym, subst, _∙_}
 use native.Mathlib.Omega.{arith}
@@ -9,11 +9,10 @@ use lib.Dec.{eqb}
 use lib.ListN.{length, getD, take, drop, length-drop}
 use lib.Seq.{length-take-le, take-suc, take-all}
 use borrow.Author.Tests.{eqb-true}
-use Rattle.part.specs.Cases.{both}
-use Rattle.part.specs.Numbers.{byteValues}
+use Rattle.ground.specs.Numbers.{byteValues}
 use Rattle.hexfile.specs.Lines.{lineFeed}
 use Rattle.hexfile.specs.Pairs.{paired, pairsOf, textOf, sumsToZero}
-use Rattle.part.proofs.Laws.{both-split}
+use Rattle.ground.proofs.Tests.{and-split}
 use Rattle.hexfile.proofs.PairLaws.{length-pairsOf, text-pairs}
 use Rattle.image.specs.Form.{colon, charactersIn, bytesOf, countOf, addressOf, typeOf, dataOf, wellFormed}
 use Rattle.image.specs.Writing.{fieldsOf, recordText}
@@ -67,8 +66,8 @@ unfolding wellFormed bytesOf
 formed [] e = absurd (true≢false (cc))
 formed (c ∷ cs) e =
     let most : ℕ = charactersIn (countOf (pairsOf cs)) in
-    let t = both-split (eqb c colon) (both (paired cs) (eqb (suc (length cs)) most)) e in
-    let u = both-split (paired cs) (eqb (suc (length cs)) most) (t .1) in
+    let t = and-split (eqb c colon) (paired cs && eqb (suc (length cs)) most) e in
+    let u = and-split (paired cs) (eqb (suc (length cs)) most) (t .1) in
     let n = eqb-true (suc (length cs)) most (u .1) in
     let m = length-pairsOf cs (u .0) in
     record { opened = ap (λ (x : ℕ). x ∷ cs) (eqb-true c colon (t .0)); pairs = u .0; sized = omega arith }

@@ -2,7 +2,7 @@
 -- record at that address is the first row; where the first record lies above it, the first row is not given, so that
 -- it is all FFh and left out. Assumes nothing.
 use Prim.Native.Nat.{ℕ, zero, suc, _+_, _*_, _%_, _≤_}
-use mathlib.Core.Bool.{Bool, true, false, not, true≢false}
+use mathlib.Core.Bool.{Bool, true, false, not, true≢false, _&&_}
 use mathlib.Core.List.{List, [], _∷_, _++_, append-assoc}
 use mathlib.Core.Path.{_≡_, refl, ap, sym, subst, _∙_}
 use native.Mathlib.Decide.{ℕ-discrete}
@@ -11,10 +11,9 @@ use lib.Dec.{eqb, leb}
 use lib.ListN.{length, replicate, length-append, length-replicate}
 use lib.Seq.{take-at, drop-at}
 use borrow.Author.Tests.{eqb-true, leb-true, le-leb, not-true}
-use Rattle.part.specs.Cases.{both}
 use Rattle.hexfile.specs.Lines.{lineFeed, trimmed}
 use Rattle.hexfile.specs.Cells.{notGiven, blankByte, settledOf, blankOf}
-use Rattle.part.proofs.Laws.{both-split}
+use Rattle.ground.proofs.Tests.{and-split}
 use Rattle.hexfile.proofs.CellLaws.{length-settledOf, settled-append, settled-none}
 use Rattle.image.specs.Form.{rowSize, dataType, endType, bytesOf, countOf, addressOf, typeOf, dataOf}
 use Rattle.image.specs.Reading.{Reading, taken, saysOf, givenOf, linesRead}
@@ -100,9 +99,9 @@ row-of address bs e =
     let full : Bool = not (blankOf (dataOf bs)) in
     let above : Bool = leb address (addressOf bs) in
     let even : Bool = eqb (addressOf bs % rowSize) 0 in
-    let c = both-split (eqb (countOf bs) rowSize) (both even (both above full)) e in
-    let a = both-split even (both above full) (c .1) in
-    let f = both-split above full (a .1) in
+    let c = and-split (eqb (countOf bs) rowSize) (even && (above && full)) e in
+    let a = and-split even (above && full) (c .1) in
+    let f = and-split above full (a .1) in
     record {
       count = eqb-true (countOf bs) rowSize (c .0);
       even = eqb-true (addressOf bs % rowSize) 0 (a .0);
@@ -136,7 +135,7 @@ first {k} {address} {front} {l} {m} {ls} {array} s =
     let said = line-said (saysOf cells (trimmed l)) (s .place) next cells m ls rest array (s .read) in
     let h : Heeded (length cells) l = heeds cells l (ap heeded (rw same at (said .0))) in
     let after : Bool = fixedLines (addressOf (bytesOf l) + rowSize) (m ∷ ls) in
-    let f = both-split (rowRecord address (bytesOf l)) after (s .fixed) in
+    let f = and-split (rowRecord address (bytesOf l)) after (s .fixed) in
     let r = row-of address (bytesOf l) (f .0) in
     let size : length cells ≡ address + k * rowSize = length-append front none ∙ (rw (s .reached, length-replicate)) in
     let i = row-inside (length cells) (bytesOf l) (h .place) (r .count) in

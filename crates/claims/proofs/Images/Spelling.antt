@@ -6,7 +6,7 @@ use mathlib.Core.List.{List, [], _∷_, _++_}
 use mathlib.Core.Path.{_≡_, refl}
 use native.Mathlib.Omega.{arith}
 use borrow.Author.Tests.{lt-ltb, eqb-true, eq-eqb, ne-eqb}
-use Rattle.part.specs.Numbers.{byteValues}
+use Rattle.ground.specs.Numbers.{byteValues}
 use Rattle.hexfile.specs.Digits.{base, glyphOf}
 use Rattle.hexfile.specs.Lines.{carriageReturn}
 use Rattle.hexfile.specs.Pairs.{pairOf, paired, pairsOf, textOf, sumOf, sumsToZero, checkOf}

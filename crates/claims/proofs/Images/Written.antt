@@ -6,11 +6,10 @@ use mathlib.Core.Bool.{Bool, true, false, true≢false}
 use mathlib.Core.List.{List, [], _∷_, _++_, append-assoc, append-nil}
 use mathlib.Core.Path.{_≡_, refl, sym, _∙_}
 use native.Mathlib.Omega.{arith}
-use lib.ListN.{length, take, drop, replicate, length-append, length-drop, take-append-drop}
-use lib.ListN.{length-replicate, replicate-append-replicate}
+use lib.ListN.{length, take, drop, replicate, length-append, length-drop, take-append-drop, length-replicate, replicate-append-replicate}
 use lib.Seq.{length-take-le, drop-at}
 use borrow.Author.Tests.{le-leb, eq-eqb}
-use Rattle.part.specs.Numbers.{byteValues}
+use Rattle.ground.specs.Numbers.{byteValues}
 use Rattle.hexfile.specs.Lines.{linesOf}
 use Rattle.hexfile.specs.Cells.{notGiven, freshOf, settledOf, blankOf}
 use Rattle.hexfile.proofs.CellLaws.{settled-append, fresh-none}
@@ -21,9 +20,7 @@ use Rattle.image.proofs.Laid.{length-rows, length-image, length-most}
 use Rattle.claims.specs.RoundTrip.{Rows, noReturn, endsInFeed, rowRecord, fixedLines, fixedForm, Takes}
 use Rattle.claims.proofs.Images.Tests.{bytes-parts, returns-append}
 use Rattle.claims.proofs.Images.Texts.{ends-append}
-use Rattle.claims.proofs.Images.Records.{lineOf, recordBytes, Writable, record-fields}
-use Rattle.claims.proofs.Images.Records.{record-first, record-returns, record-trimmed, record-read, record-gives}
-use Rattle.claims.proofs.Images.Records.{end-writable, end-line, end-feed, record-ends}
+use Rattle.claims.proofs.Images.Records.{lineOf, recordBytes, Writable, record-fields, record-first, record-returns, record-trimmed, record-read, record-gives, end-writable, end-line, end-feed, record-ends}
 use Rattle.claims.proofs.Images.Cells.{settled-same, settled-blank, given-at}
 
 -- The first row of rows is 16 bytes long.

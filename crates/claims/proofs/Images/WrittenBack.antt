@@ -2,15 +2,14 @@
 -- accepts and that is in the fixed form is exactly what the writer makes of the array read. Whatever text is accepted,
 -- the array read has all its rows and holds bytes. Assumes nothing.
 use Prim.Native.Nat.{ℕ, _+_, _*_}
-use mathlib.Core.Bool.{Bool, true, false, true≢false}
+use mathlib.Core.Bool.{Bool, true, false, true≢false, _&&_}
 use mathlib.Core.List.{List, [], _∷_}
 use mathlib.Core.Path.{_≡_, refl, ap, _∙_}
 use lib.Dec.{leb}
 use lib.ListN.{length, replicate, length-replicate}
-use Rattle.part.specs.Cases.{both}
 use Rattle.hexfile.specs.Lines.{linesOf, trimmed}
 use Rattle.hexfile.specs.Cells.{notGiven}
-use Rattle.part.proofs.Laws.{both-split}
+use Rattle.ground.proofs.Tests.{and-split}
 use Rattle.hexfile.proofs.CellLaws.{length-settledOf}
 use Rattle.image.specs.Form.{mostText, rowSize, bytesOf}
 use Rattle.image.specs.Reading.{Reading, taken, saysOf, givenOf, linesRead, textBy, readingOf}
@@ -59,8 +58,8 @@ takes-rows n text array g =
 pub image-back : (n : ℕ) (text array : List ℕ) → Takes n text array → fixedForm text ≡ true → imageText array ≡ text
 unfolding fixedForm
 image-back n text array g f =
-    let t = both-split (noReturn text) (both (endsInFeed text) (fixedLines 0 (linesOf text))) f in
-    let u = both-split (endsInFeed text) (fixedLines 0 (linesOf text)) (t .1) in
+    let t = and-split (noReturn text) (endsInFeed text && fixedLines 0 (linesOf text)) f in
+    let u = and-split (endsInFeed text) (fixedLines 0 (linesOf text)) (t .1) in
     let j = lines-joined text (u .0) in
     let s : Stands n 0 [] (linesOf text) array = record {
       total = length text;

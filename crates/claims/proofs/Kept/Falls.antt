@@ -7,11 +7,11 @@ use mathlib.Core.Path.{_≡_, refl, _∙_}
 use native.Mathlib.Omega.{arith}
 use lib.Dec.{eqb}
 use borrow.Author.Tests.{not-true}
-use Rattle.part.specs.Numbers.{mostBits, registerAddress, byteValues}
-use Rattle.part.specs.Cases.{odd}
+use Rattle.ground.specs.Numbers.{mostBits, registerAddress, byteValues}
+use Rattle.ground.specs.Cases.{odd}
 use Rattle.part.specs.Lock.{lockedOf}
 use Rattle.part.specs.Page.{placeOf, nextInPage, nextInArray, byteAt}
-use Rattle.part.specs.declared.kinds.Kind.{Kind}
+use Rattle.ground.specs.declared.kinds.Kind.{Kind}
 use Rattle.part.specs.declared.state.BusAddress.{BusAddress}
 use Rattle.part.specs.declared.state.Phase.{Phase}
 use Rattle.part.specs.declared.state.Phase.the-variants.{Idle, Silent, Slave, High, Low, Data, Register, Send, SendRegister}
@@ -19,15 +19,13 @@ use Rattle.part.specs.declared.state.Talk.{Talk}
 use Rattle.part.specs.declared.state.Device.{Device}
 use Rattle.part.specs.declared.state.Load.{Load}
 use Rattle.part.specs.declared.state.Place.{Place}
-use Rattle.part.proofs.Laws.{both-split}
+use Rattle.ground.proofs.Tests.{and-split}
 use Rattle.part.proofs.Places.{page-stays, lock-of-page}
 use Rattle.control.specs.Register.{readsOf}
 use Rattle.device.specs.Talk.{withTalk, withChosen, acknowledged, rested, sending, released, addressOf, matches}
-use Rattle.device.specs.Bytes.{slaveBy, slaveOf, highOf, addressBy, lowOf, takenOf, dataBy, registerBy, byteIn, byteOf}
-use Rattle.device.specs.Bytes.{keptBy, keptIn, keptOf, bitIn, bitOf, answeredBy, ninthIn, ninthOf}
+use Rattle.device.specs.Bytes.{slaveBy, slaveOf, highOf, addressBy, lowOf, takenOf, dataBy, registerBy, byteIn, byteOf, keptBy, keptIn, keptOf, bitIn, bitOf, answeredBy, ninthIn, ninthOf}
 use Rattle.claims.specs.Reachable.{waits, speaks}
-use Rattle.claims.proofs.Kept.Talks.{Voice, rests, answers, sends, Pends, Talks}
-use Rattle.claims.proofs.Kept.Talks.{still, voice-stays, voice-released, whole-filled}
+use Rattle.claims.proofs.Kept.Talks.{Voice, rests, answers, sends, Pends, Talks, still, voice-stays, voice-released, whole-filled}
 
 -- The two phases that take data, for the array or for the register.
 abbrev takes : Phase → Bool
@@ -142,7 +140,7 @@ module _ (k : Kind) (n m : ℕ) (d : Device) (l : Load) (g : Talks k n d l) wher
       → Talks k m (dataBy b d) (keptBy b d v l)
   unfolding takenOf
   data-talks true v e t z =
-      let h = both-split (d .control .wel) (not (lockedOf k (d .control .stored) (d .counter))) t in
+      let h = and-split (d .control .wel) (not (lockedOf k (d .control .stored) (d .counter))) t in
       let u = not-true (lockedOf k (d .control .stored) (d .counter)) (h .1) in
       let f = lock-of-page k (d .control .stored) (nextInPage (d .counter)) (d .counter) (page-stays (d .counter)) in
       record {

@@ -9,12 +9,12 @@ use native.Mathlib.Nat.{mod-lt}
 use lib.Dec.{eqb, leb, ltb}
 use lib.ListN.{length}
 use borrow.Author.Tests.{eq-eqb, lt-ltb, le-leb, ltb-true, leb-true}
-use Rattle.part.specs.Numbers.{writeTime, resetHold, longWatch, mostSelect, mostBits, registerAddress}
-use Rattle.part.specs.Cases.{odd, middle}
-use Rattle.part.specs.Kind.{kindOf, known}
+use Rattle.ground.specs.Numbers.{writeTime, resetHold, longWatch, mostSelect, mostBits, registerAddress}
+use Rattle.ground.specs.Cases.{odd, middle}
+use Rattle.ground.specs.Kind.{kindOf, known}
 use Rattle.part.specs.Timers.{timedOf}
 use Rattle.part.specs.Page.{marked}
-use Rattle.part.specs.declared.kinds.Kind.{Kind}
+use Rattle.ground.specs.declared.kinds.Kind.{Kind}
 use Rattle.part.specs.declared.state.BusAddress.{BusAddress}
 use Rattle.part.specs.declared.state.Phase.{Phase}
 use Rattle.part.specs.declared.state.Phase.the-variants.{Idle, Silent, Slave, High, Low, Data, Register, Send, SendRegister}
@@ -24,8 +24,8 @@ use Rattle.part.specs.declared.state.Control.{Control}
 use Rattle.part.specs.declared.state.Device.{Device}
 use Rattle.part.specs.declared.state.Load.{Load}
 use Rattle.part.specs.declared.state.State.{State}
-use Rattle.part.proofs.Laws.{both-split}
-use Rattle.part.proofs.Known.{Sound, kind-sound}
+use Rattle.ground.proofs.Tests.{and-split}
+use Rattle.ground.proofs.Known.{Sound, kind-sound}
 use Rattle.part.proofs.Places.{array-stays, read-stays}
 use Rattle.wire.specs.Sign.{wireOf}
 use Rattle.wire.specs.declared.Sign.{Sign}
@@ -35,12 +35,10 @@ use Rattle.control.specs.declared.Order.the-variants.{SetWel, ClearWel, SetRwel
 use Rattle.control.specs.Register.{plainOf, orderOf, carriedOut, takesTime}
 use Rattle.refusals.specs.Refusals.{storable, timersInRange, inRange}
 use Rattle.device.specs.Talk.{addressOf, matches}
-use Rattle.device.specs.Bytes.{slaveBy, slaveOf, highOf, addressBy, lowOf, takenOf, dataBy, registerBy, byteIn, byteOf}
-use Rattle.device.specs.Bytes.{keptOf, bitIn, bitOf, answeredBy, ninthIn, ninthOf}
+use Rattle.device.specs.Bytes.{slaveBy, slaveOf, highOf, addressBy, lowOf, takenOf, dataBy, registerBy, byteIn, byteOf, keptOf, bitIn, bitOf, answeredBy, ninthIn, ninthOf}
 use Rattle.device.specs.Ends.{startedOf, stoppedOf, endedOf}
 use Rattle.sample.specs.Level.{sclOf, wpOf, vccOf}
-use Rattle.sample.specs.Sample.{withWire, begun, latchedBy, opensOf, resetOf, startOf, stopOf, byteStep, heardBy}
-use Rattle.sample.specs.Sample.{lineOf, seenOf, wiredOf, goesOnBy, stepOf}
+use Rattle.sample.specs.Sample.{withWire, begun, latchedBy, opensOf, resetOf, startOf, stopOf, byteStep, heardBy, lineOf, seenOf, wiredOf, goesOnBy, stepOf}
 use Rattle.sample.proofs.Sampled.{array-length}
 use Rattle.sample.specs.Run.{Part, partStep, runOf}
 use Rattle.claims.proofs.Kept.Signs.{Saw, saw}
@@ -59,13 +57,13 @@ pub record Within (s : State) : Type 0 where
 pub range-within : (s : State) → inRange s ≡ true → Within s
 unfolding inRange
 range-within s e =
-    let a = both-split (ltb (s .device .counter .0) (kindOf (s .part) .size)) _ e in
-    let b = both-split (leb (s .wire .frame .bits) mostBits) _ (a .1) in
-    let t = both-split (timersInRange (s .timers)) _ (b .1) in
-    let u = both-split (leb (s .timers .write) writeTime) _ (t .0) in
-    let w = both-split (leb (s .timers .hold) resetHold) (leb (s .timers .watchdog .left) longWatch) (u .1) in
-    let k = both-split (known (s .part)) _ (t .1) in
-    let c = both-split (leb (s .select) mostSelect) (storable (s .device .control .stored)) (k .1) in
+    let a = and-split (ltb (s .device .counter .0) (kindOf (s .part) .size)) _ e in
+    let b = and-split (leb (s .wire .frame .bits) mostBits) _ (a .1) in
+    let t = and-split (timersInRange (s .timers)) _ (b .1) in
+    let u = and-split (leb (s .timers .write) writeTime) _ (t .0) in
+    let w = and-split (leb (s .timers .hold) resetHold) (leb (s .timers .watchdog .left) longWatch) (u .1) in
+    let k = and-split (known (s .part)) _ (t .1) in
+    let c = and-split (leb (s .select) mostSelect) (storable (s .device .control .stored)) (k .1) in
     record {
       counter = ltb-true (s .device .counter .0) (kindOf (s .part) .size) (a .0);
       bits = leb-true (s .wire .frame .bits) mostBits (b .0);

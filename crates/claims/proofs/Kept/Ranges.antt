@@ -4,7 +4,7 @@ use mathlib.Core.Bool.{Bool, true, false}
 use native.Mathlib.Omega.{arith}
 use lib.Dec.{eqb}
 use lib.ListN.{getD}
-use Rattle.part.specs.Numbers.{writeTime, resetHold, longWatch}
+use Rattle.ground.specs.Numbers.{writeTime, resetHold, longWatch}
 use Rattle.part.specs.Timers.{off, watchTable, watchCode, loadedOf, writeFell, timedBy, timedOf, suppliedOf}
 use Rattle.part.specs.declared.state.Timers.{Timers}
 use Rattle.part.specs.declared.state.Watchdog.{Watchdog}

@@ -6,7 +6,7 @@ use mathlib.Core.Path.{_≡_, refl}
 use native.Mathlib.Omega.{arith}
 use lib.Dec.{eqb, ltb}
 use borrow.Author.Tests.{ltb-true, ltb-false, eqb-true, eqb-false}
-use Rattle.part.specs.Numbers.{mostBits}
+use Rattle.ground.specs.Numbers.{mostBits}
 use Rattle.part.specs.declared.state.Frame.{Frame}
 use Rattle.part.specs.declared.state.Wire.{Wire}
 use Rattle.wire.specs.Sign.{allButOne, fallSignBy, fallSign, fallFrameBy, fallFrame, signBy, frameBy, signOf, wireOf}

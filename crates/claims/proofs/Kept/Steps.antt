@@ -1,12 +1,11 @@
 -- One sample keeps all that the reachable states keep beside the ranges, in one record that holds its parts together.
 -- Assumes nothing.
 use Prim.Native.Nat.{ℕ}
-use mathlib.Core.Bool.{Bool, true, false, true≢false}
+use mathlib.Core.Bool.{Bool, true, false, true≢false, _&&_}
 use mathlib.Core.List.{List}
 use mathlib.Core.Path.{_≡_, refl}
 use native.Mathlib.Omega.{arith}
-use Rattle.part.specs.Cases.{both}
-use Rattle.part.specs.Kind.{kindOf}
+use Rattle.ground.specs.Kind.{kindOf}
 use Rattle.part.specs.Timers.{writes, timedOf, suppliedOf}
 use Rattle.part.specs.declared.state.Phase.the-variants.{Idle}
 use Rattle.part.specs.declared.state.Timers.{Timers}
@@ -21,8 +20,7 @@ use Rattle.device.specs.Talk.{withControl}
 use Rattle.device.specs.Bytes.{byteOf, keptOf, bitOf, ninthOf}
 use Rattle.device.specs.Ends.{startedOf, dropped, stoppedOf, endedOf}
 use Rattle.sample.specs.Level.{sclOf, sdaOf, wpOf, vccOf}
-use Rattle.sample.specs.Sample.{withWire, latchedBy, opensOf, resetOf, startOf, stopOf, byteStep, heardBy}
-use Rattle.sample.specs.Sample.{lineOf, seenOf, wiredOf, goesOnBy, stepOf}
+use Rattle.sample.specs.Sample.{withWire, latchedBy, opensOf, resetOf, startOf, stopOf, byteStep, heardBy, lineOf, seenOf, wiredOf, goesOnBy, stepOf}
 use Rattle.claims.proofs.Kept.Signs.{Saw, saw}
 use Rattle.claims.proofs.Kept.Talks.{Talks, fresh, start-talks, stop-talks}
 use Rattle.claims.proofs.Kept.Falls.{bit-talks, byte-talks, ninth-talks}
@@ -71,7 +69,7 @@ heard-sits (Ninth b) wp array s w e h g =
     (omega arith))
 
 -- Own SDA low is low on the line.
-pub low-line : (x own : Bool) → own ≡ false → both x own ≡ false
+pub low-line : (x own : Bool) → own ≡ false → (x && own) ≡ false
 low-line true own e = e
 low-line false own e = refl
 

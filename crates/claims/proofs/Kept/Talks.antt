@@ -6,10 +6,10 @@ use mathlib.Core.List.{List, [], _∷_}
 use mathlib.Core.Path.{_≡_, refl, sym, _∙_}
 use native.Mathlib.Omega.{arith}
 use lib.ListN.{length, set, length-set}
-use Rattle.part.specs.Numbers.{mostBits}
-use Rattle.part.specs.Cases.{some, highest}
-use Rattle.part.specs.Page.{inPage, emptyLoad, marked, filledOf}
-use Rattle.part.specs.declared.kinds.Kind.{Kind}
+use Rattle.ground.specs.Numbers.{mostBits}
+use Rattle.ground.specs.Cases.{highest}
+use Rattle.part.specs.Page.{inPage, emptyLoad, marked, filledOf, anyMarked}
+use Rattle.ground.specs.declared.kinds.Kind.{Kind}
 use Rattle.part.specs.declared.state.Phase.{Phase}
 use Rattle.part.specs.declared.state.Phase.the-variants.{Idle, Silent, Slave, Register}
 use Rattle.part.specs.declared.state.Talk.{Talk}
@@ -59,7 +59,7 @@ voice-released t n m h (answers a b c d) = still (released t) m h c refl
 voice-released t n m h (sends a b c) = absurd (true≢false (sym a ∙ h))
 
 -- Marks after one is set.
-some-set : (ms : List Bool) (i : ℕ) → i < length ms → some (set ms i true) ≡ true
+some-set : (ms : List Bool) (i : ℕ) → i < length ms → anyMarked (set ms i true) ≡ true
 some-set [] i h = absurd (omega arith)
 some-set (m ∷ ms) zero h = refl
 some-set (true ∷ ms) (suc i) h = refl

@@ -5,8 +5,8 @@ use mathlib.Core.List.{List, []}
 use mathlib.Core.Path.{_≡_, refl, _∙_}
 use lib.ListN.{length}
 use borrow.Author.Tests.{le-leb}
-use Rattle.refusals.specs.Refusals.{accepted}
-use Rattle.part.specs.Kind.{kindOf}
+use Rattle.ground.specs.Verdict.{accepted}
+use Rattle.ground.specs.Kind.{kindOf}
 use Rattle.hexfile.specs.Digits.{digitOf, glyphOf}
 use Rattle.hexfile.specs.Lines.{trimmed}
 use Rattle.image.specs.Form.{imageSize, bytesOf, wellFormed, typed, inside}

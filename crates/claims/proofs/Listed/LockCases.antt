@@ -7,7 +7,7 @@ use native.Mathlib.Omega.{arith}
 use borrow.Author.Tests.{le-leb, le-ltb}
 use Rattle.part.specs.Lock.{blockCode, extentOf, lockedOf}
 use Rattle.part.specs.Page.{at, pageOf}
-use Rattle.part.specs.declared.kinds.Kind.{Kind}
+use Rattle.ground.specs.declared.kinds.Kind.{Kind}
 use Rattle.part.specs.declared.state.Device.{Device}
 use Rattle.device.specs.Bytes.{takenOf, dataBy, byteOf}
 use Rattle.claims.specs.BenchCases.{Locks, P2, P3, P4}

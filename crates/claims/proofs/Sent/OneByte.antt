@@ -1,18 +1,17 @@
 -- One byte of the array through the rows: it stays where no write covers its address. Assumes a page load of 64 bytes and 64
 -- marks.
 use Prim.Native.Nat.{ℕ, _≤_}
-use mathlib.Core.Bool.{Bool, true, false, not}
+use mathlib.Core.Bool.{Bool, true, false, not, _&&_}
 use mathlib.Core.List.{List, [], _∷_}
 use mathlib.Core.Path.{_≡_, refl, sym, _∙_}
 use native.Mathlib.Omega.{arith}
 use lib.Dec.{eqb, ltb}
 use lib.ListN.{length, getD, List·getD-eq-default}
 use borrow.Author.Tests.{ltb-true, ltb-false, not-true}
-use Rattle.part.specs.Cases.{both}
 use Rattle.part.specs.Page.{pageOf, inPage, at, storeOf, marked}
 use Rattle.part.specs.declared.state.Place.{Place}
 use Rattle.part.specs.declared.state.State.{State}
-use Rattle.part.proofs.Laws.{both-split}
+use Rattle.ground.proofs.Tests.{and-split}
 use Rattle.part.proofs.Store.{store-length, store-at}
 use Rattle.wire.specs.declared.Sign.{Sign}
 use Rattle.wire.specs.declared.Sign.the-variants.{Quiet, Start, Stop, Bit, Byte, Ninth}
@@ -24,7 +23,7 @@ use Rattle.claims.proofs.Sent.TwoArrays.{whole-kept}
 module _ (a e level : ℕ) (s : State) (w : FullLoad s) (xs : List ℕ) where
   -- A store that does not cover the address leaves its byte.
   saved-stays : (b : Bool) (p : Place)
-      → both (eqb (pageOf (at a)) (pageOf p)) (getD (s .load .marks) (inPage (at a)) false) ≡ false
+      → (eqb (pageOf (at a)) (pageOf p) && getD (s .load .marks) (inPage (at a)) false) ≡ false
       → getD (savedBy b p (s .load) xs) a 0 ≡ getD xs a 0
   saved-stays false p c = refl
   saved-stays true p c = go (ltb a (length xs)) refl
@@ -65,6 +64,6 @@ unfolding partStep
 rows-stay a [] ls p w c = refl
 rows-stay a (e ∷ es) [] p w c = refl
 rows-stay a (e ∷ es) (l ∷ ls) p w c =
-    let d = both-split (not (covers a e l p)) (coversNone a es ls (partStep e l p)) c in
+    let d = and-split (not (covers a e l p)) (coversNone a es ls (partStep e l p)) c in
     rows-stay a es ls (partStep e l p) (whole-kept e l (p .array) (p .state) w) (d .1)
     ∙ array-stays a e l (p .state) w (p .array) (not-true (covers a e l p) (d .0))

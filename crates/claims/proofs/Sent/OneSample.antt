@@ -1,18 +1,17 @@
 -- Two states beside each other in one sample: equal, or both sending the byte fetched from one address, the same bit of
 -- it being out. While that bit is equal the two see the same sign, and the sample leaves them so. Assumes nothing.
 use Prim.Native.Nat.{ℕ, suc, _+_, _<_, _≤_}
-use mathlib.Core.Bool.{Bool, true, false, not}
+use mathlib.Core.Bool.{Bool, true, false, not, _&&_}
 use mathlib.Core.List.{List}
 use mathlib.Core.Path.{_≡_, refl, ap, subst, _∙_}
 use native.Mathlib.Numerals.{add-one}
 use native.Mathlib.Omega.{arith}
 use lib.Dec.{eqb, ltb}
 use borrow.Author.Tests.{ltb-true, ltb-false, eqb-true, eqb-false}
-use Rattle.part.specs.Cases.{both}
-use Rattle.part.specs.Numbers.{mostBits}
-use Rattle.part.specs.Kind.{kindOf}
+use Rattle.ground.specs.Numbers.{mostBits}
+use Rattle.ground.specs.Kind.{kindOf}
 use Rattle.part.specs.Page.{byteAt}
-use Rattle.part.specs.declared.kinds.Kind.{Kind}
+use Rattle.ground.specs.declared.kinds.Kind.{Kind}
 use Rattle.part.specs.declared.state.Control.{Control}
 use Rattle.part.specs.declared.state.Frame.{Frame}
 use Rattle.part.specs.declared.state.Phase.{Phase}
@@ -26,11 +25,9 @@ use Rattle.device.specs.Talk.{withTalk, withControl, sending}
 use Rattle.device.specs.Bytes.{byteOf, keptOf, bitOf, fetch, ninthIn, ninthOf}
 use Rattle.device.specs.Ends.{startedOf, stoppedOf, endedOf}
 use Rattle.sample.specs.Level.{sclOf, wpOf}
-use Rattle.sample.specs.Sample.{withDevice, opensOf, resetOf, startOf, stopOf, byteStep, heardBy, lineOf, seenOf, wiredOf}
-use Rattle.sample.specs.Sample.{goesOnBy, stepOf}
+use Rattle.sample.specs.Sample.{withDevice, opensOf, resetOf, startOf, stopOf, byteStep, heardBy, lineOf, seenOf, wiredOf, goesOnBy, stepOf}
 use Rattle.sample.specs.Run.{Part}
-use Rattle.claims.specs.Sending.{Sent, nothing, sends, sendsArray, fetchedBy, nextSent, sentBy, heardSent, sentOf}
-use Rattle.claims.specs.Sending.{bitFrom}
+use Rattle.claims.specs.Sending.{Sent, nothing, sends, sendsArray, fetchedBy, nextSent, sentBy, heardSent, sentOf, bitFrom}
 use Rattle.claims.specs.Differ.{elsewhere, EqualBut}
 use Rattle.claims.proofs.Sent.SentBits.{shifted, bit-out}
 
@@ -140,8 +137,8 @@ module _ {a : ℕ} {xs ys : List ℕ} (but : EqualBut a xs ys) where
   -- So does a ninth fall, by phase; for what is being sent the control register does not count.
   ninth-beside : (p : Phase) (b : Bool) (c : State) (k : Kind) (m : Control) → c .wire .frame .bits ≡ 0
       → Beside a (withDevice c (ninthIn p k xs b (c .device))) (withDevice c (ninthIn p k ys b (c .device)))
-      (fetchedBy (both (sendsArray p) (not b)) xs (withControl (c .device) m))
-      (fetchedBy (both (sendsArray p) (not b)) ys (withControl (c .device) m))
+      (fetchedBy (sendsArray p && not b) xs (withControl (c .device) m))
+      (fetchedBy (sendsArray p && not b) ys (withControl (c .device) m))
   ninth-beside Idle b c k m n = equal refl refl refl
   ninth-beside Silent b c k m n = equal refl refl refl
   ninth-beside Slave b c k m n = equal refl refl refl

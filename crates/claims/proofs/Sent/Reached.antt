@@ -8,8 +8,8 @@ use mathlib.Core.Path.{_≡_, refl, ap, sym, _∙_}
 use native.Mathlib.Omega.{arith}
 use lib.Dec.{eqb}
 use borrow.Author.Tests.{eq-eqb, ne-eqb, not-true, not-false}
-use Rattle.part.specs.Cases.{orZero}
-use Rattle.part.specs.Kind.{kindOf}
+use Rattle.ground.specs.Cases.{orZero}
+use Rattle.ground.specs.Kind.{kindOf}
 use Rattle.part.specs.Timers.{writes}
 use Rattle.part.specs.declared.state.State.{State}
 use Rattle.sample.specs.Level.{pinBy, answerOf}

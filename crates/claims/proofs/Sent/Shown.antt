@@ -1,11 +1,10 @@
 -- One part through the rows, beside itself: while a byte fetched within them is being sent, the part gives on SDA the bit
 -- of it that is out. Assumes nothing.
 use Prim.Native.Nat.{ℕ}
-use mathlib.Core.Bool.{Bool, true, false, true≢false}
+use mathlib.Core.Bool.{Bool, true, false, true≢false, _&&_}
 use mathlib.Core.List.{List, [], _∷_}
 use mathlib.Core.Path.{_≡_, refl, sym}
 use borrow.Author.Tests.{eq-eqb}
-use Rattle.part.specs.Cases.{both}
 use Rattle.sample.specs.Run.{Part, partStep, runOf}
 use Rattle.claims.specs.Sending.{Sent, nothing, sends, bitFrom}
 use Rattle.claims.specs.Differ.{sameBit, reaches, EqualBut, sentAfter}
@@ -18,14 +17,14 @@ same-self true = refl
 same-self false = refl
 
 -- A test that cannot hold, beside another.
-both-false : (b : Bool) → both b false ≡ false
-both-false true = refl
-both-false false = refl
+and-false : (b : Bool) → (b && false) ≡ false
+and-false true = refl
+and-false false = refl
 
 -- What is being sent is unequal to itself in no bit.
 reach-self : (a : ℕ) (g : Sent) → reaches a g g ≡ false
 reach-self a nothing = refl
-reach-self a (sends b v n) = rw (eq-eqb n n refl, same-self (bitFrom n v), both-false)
+reach-self a (sends b v n) = rw (eq-eqb n n refl, same-self (bitFrom n v), and-false)
 
 -- An array is equal to itself.
 but-self : (a : ℕ) (xs : List ℕ) → EqualBut a xs xs

@@ -1,7 +1,7 @@
 -- Two arrays that are equal but for one address, given the same sample of one state: they stay so, and a write that
 -- covers the address makes them equal. The page load stays whole. Assumes nothing.
 use Prim.Native.Nat.{ℕ, zero, suc, _<_, _≤_}
-use mathlib.Core.Bool.{Bool, true, false, true≢false}
+use mathlib.Core.Bool.{Bool, true, false, true≢false, _&&_}
 use mathlib.Core.List.{List, [], _∷_}
 use mathlib.Core.Path.{_≡_, refl, sym, _∙_}
 use native.Mathlib.Omega.{arith}
@@ -9,29 +9,27 @@ use lib.Dec.{eqb, ltb}
 use lib.ListN.{length, getD, List·getD-eq-default, length-set}
 use lib.Seq.{ext-getD}
 use borrow.Author.Tests.{ltb-true, ltb-false, eqb-true, eqb-false}
-use Rattle.part.specs.Cases.{both, some}
-use Rattle.part.specs.Numbers.{pageSize}
-use Rattle.part.specs.Kind.{kindOf}
-use Rattle.part.specs.Page.{pageOf, inPage, at, storeOf, marked, filledOf}
+use Rattle.ground.specs.Numbers.{pageSize}
+use Rattle.ground.specs.Kind.{kindOf}
+use Rattle.part.specs.Page.{pageOf, inPage, at, storeOf, marked, filledOf, anyMarked}
 use Rattle.part.specs.declared.state.Device.{Device}
 use Rattle.part.specs.declared.state.Load.{Load}
 use Rattle.part.specs.declared.state.Phase.{Phase}
 use Rattle.part.specs.declared.state.Phase.the-variants.{Idle, Silent, Slave, High, Low, Data, Register, Send, SendRegister}
 use Rattle.part.specs.declared.state.Place.{Place}
 use Rattle.part.specs.declared.state.State.{State}
-use Rattle.part.specs.declared.kinds.Kind.{Kind}
-use Rattle.part.proofs.Laws.{both-split}
+use Rattle.ground.specs.declared.kinds.Kind.{Kind}
+use Rattle.ground.proofs.Tests.{and-split}
 use Rattle.part.proofs.Store.{store-length, store-at}
 use Rattle.wire.specs.declared.Sign.{Sign}
 use Rattle.wire.specs.declared.Sign.the-variants.{Quiet, Start, Stop, Bit, Byte, Ninth}
 use Rattle.device.specs.Bytes.{takenOf, keptBy, keptIn, keptOf}
 use Rattle.sample.specs.Level.{wpOf}
-use Rattle.sample.specs.Sample.{opensOf, resetOf, startOf, stopOf, byteStep, heardBy, savedBy, writtenBy, seenOf, wiredOf}
-use Rattle.sample.specs.Sample.{goesOnBy, stepOf, keepsBy, arrayOf}
+use Rattle.sample.specs.Sample.{opensOf, resetOf, startOf, stopOf, byteStep, heardBy, savedBy, writtenBy, seenOf, wiredOf, goesOnBy, stepOf, keepsBy, arrayOf}
 use Rattle.claims.specs.Differ.{coversBy, covers, EqualBut, FullLoad, silenced}
 
 -- A mark that is set is one of the marks.
-some-mark : (ms : List Bool) (i : ℕ) → getD ms i false ≡ true → some ms ≡ true
+some-mark : (ms : List Bool) (i : ℕ) → getD ms i false ≡ true → anyMarked ms ≡ true
 some-mark [] i e = e
 some-mark (true ∷ ms) i e = refl
 some-mark (false ∷ ms) zero e = absurd (true≢false (sym e))
@@ -67,12 +65,12 @@ module _ (s : State) (whole : FullLoad s) where
 
   -- A store that covers the address makes two such arrays equal.
   saved-equal : {a : ℕ} {xs ys : List ℕ} (p : Place) → EqualBut a xs ys
-      → both (eqb (pageOf (at a)) (pageOf p)) (getD (s .load .marks) (inPage (at a)) false) ≡ true
+      → (eqb (pageOf (at a)) (pageOf p) && getD (s .load .marks) (inPage (at a)) false) ≡ true
       → savedBy (marked (s .load)) p (s .load) xs ≡ savedBy (marked (s .load)) p (s .load) ys
   saved-equal {a} {xs} {ys} p e c =
       let in-page : Bool = eqb (pageOf (at a)) (pageOf p) in
       let set : Bool = getD (s .load .marks) (inPage (at a)) false in
-      let m : marked (s .load) ≡ true = some-mark (s .load .marks) (inPage (at a)) (both-split in-page set c .1) in
+      let m : marked (s .load) ≡ true = some-mark (s .load .marks) (inPage (at a)) (and-split in-page set c .1) in
       let n = saved-kept true p e .lengths in
       rw m (ext-getD 0 (storeOf p (s .load) xs) (storeOf p (s .load) ys) n (λ i h. go i (eqb i a) refl h))
     where

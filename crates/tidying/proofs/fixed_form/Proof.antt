@@ -1,6 +1,6 @@
 -- `tidying::fixed_form` meets its contract.
 use mathlib.Core.Path.{refl}
-use Rattle.part.specs.Kind.{kindOf}
+use Rattle.ground.specs.Kind.{kindOf}
 use borrow.Author.Needs.{needs}
 use Rattle.tidying.proofs.fixed_form.Statement.{statement}
 use Rattle.tidying.proofs.fixed_form.Tie as tie

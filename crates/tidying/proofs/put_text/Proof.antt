@@ -1,6 +1,6 @@
 -- `tidying::put_text` meets its contract.
 use native.Mathlib.Omega.{arith}
-use Rattle.part.specs.Kind.{kindOf}
+use Rattle.ground.specs.Kind.{kindOf}
 use Rattle.tidying.proofs.Starting.{shows-refusal, shows-image}
 use borrow.Author.Needs.{needs}
 use Rattle.tidying.proofs.put_text.Statement.{statement}

@@ -1,5 +1,5 @@
 -- `bench::replies::opening_words` meets its contract.
-use Rattle.refusals.specs.Refusals.{meant}
+use Rattle.ground.specs.Verdict.{meant}
 use Rattle.bench.specs.Reply.{openingOf}
 use borrow.Author.Needs.{needs}
 use Rattle.bench.proofs.replies.opening_words.Statement.{statement}

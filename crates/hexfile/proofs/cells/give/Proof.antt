@@ -1,4 +1,5 @@
 -- `hexfile::cells::give` meets its contract: what is tested and given so far, and what is left, is the whole.
+use mathlib.Core.Bool.{_&&_}
 use Prim.Native.Nat.{_≤_, _-_}
 use mathlib.Core.Path.{_≡_, refl, _∙_}
 use mathlib.Core.List.{_++_}
@@ -6,7 +7,6 @@ use native.Mathlib.Omega.{arith}
 use native.Mathlib.Numerals.{add-one}
 use borrow.Author.Needs.{needs}
 use lib.ListN.{length, take, drop, length-set}
-use Rattle.part.specs.Cases.{both}
 use Rattle.hexfile.specs.Cells.{freshOf, giveOf}
 use Rattle.hexfile.proofs.CellLaws.{fresh-turn, fresh-done, give-turn, give-done}
 use Rattle.hexfile.proofs.cells.give.Statement.{statement}
@@ -17,7 +17,7 @@ Inv-loop cells₀ bytes fresh₀ i₀ cells fresh i =
     (i ≤ length bytes)
     × (length cells ≡ length cells₀)
     × (length bytes ≤ length cells₀)
-    × (both fresh (freshOf (drop i cells) (drop i bytes)) ≡ freshOf cells₀ bytes)
+    × ((fresh && freshOf (drop i cells) (drop i bytes)) ≡ freshOf cells₀ bytes)
     × (take i cells ++ giveOf (drop i cells) (drop i bytes) ≡ giveOf cells₀ bytes)
 
 abbrev μ-loop : tie.MeasureT-loop

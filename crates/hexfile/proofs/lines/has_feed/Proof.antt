@@ -1,18 +1,18 @@
 -- `hexfile::lines::has_feed` meets its contract: the tests so far, and those that are left, are the tests of the whole.
+use mathlib.Core.Bool.{_||_}
 use Prim.Native.Nat.{_≤_, _-_}
 use mathlib.Core.Path.{_≡_, refl, _∙_}
 use native.Mathlib.Omega.{arith}
 use native.Mathlib.Numerals.{add-one}
 use borrow.Author.Needs.{needs}
 use lib.ListN.{length, drop}
-use Rattle.part.specs.Cases.{either}
 use Rattle.hexfile.specs.Parts.{feedIn}
 use Rattle.hexfile.proofs.WindowLaws.{feed-turn, feed-done}
 use Rattle.hexfile.proofs.lines.has_feed.Statement.{statement}
 use Rattle.hexfile.proofs.lines.has_feed.Tie as tie
 
 abbrev Inv-loop : tie.InvT-loop
-Inv-loop text any₀ i₀ any i = (i ≤ length text) × (either any (feedIn (drop i text)) ≡ feedIn text)
+Inv-loop text any₀ i₀ any i = (i ≤ length text) × ((any || feedIn (drop i text)) ≡ feedIn text)
 
 abbrev μ-loop : tie.MeasureT-loop
 μ-loop text any₀ i₀ any i = length text - i

@@ -1,18 +1,18 @@
 -- `hexfile::pairs::all_digits` meets its contract: the tests so far, and those that are left, are the tests of the whole.
+use mathlib.Core.Bool.{_&&_}
 use Prim.Native.Nat.{_≤_, _-_}
 use mathlib.Core.Path.{_≡_, refl, _∙_}
 use native.Mathlib.Omega.{arith}
 use native.Mathlib.Numerals.{add-one}
 use borrow.Author.Needs.{needs}
 use lib.ListN.{length, drop}
-use Rattle.part.specs.Cases.{both}
 use Rattle.hexfile.specs.Parts.{allDigits}
 use Rattle.hexfile.proofs.WindowLaws.{all-turn, all-done}
 use Rattle.hexfile.proofs.pairs.all_digits.Statement.{statement}
 use Rattle.hexfile.proofs.pairs.all_digits.Tie as tie
 
 abbrev Inv-loop : tie.InvT-loop
-Inv-loop text all₀ i₀ all i = (i ≤ length text) × (both all (allDigits (drop i text)) ≡ allDigits text)
+Inv-loop text all₀ i₀ all i = (i ≤ length text) × ((all && allDigits (drop i text)) ≡ allDigits text)
 
 abbrev μ-loop : tie.MeasureT-loop
 μ-loop text all₀ i₀ all i = length text - i

@@ -9,24 +9,23 @@ use borrow.Author.Needs.{needs}
 use lib.Dec.{eqb}
 use lib.ListN.{length, getD, drop, drop-of-length-le}
 use lib.Seq.{drop-cons}
-use Rattle.part.specs.Cases.{both}
 use Rattle.hexfile.specs.Cells.{blankByte, blankOf}
 use Rattle.hexfile.proofs.rows.blank.Statement.{statement}
 use Rattle.hexfile.proofs.rows.blank.Tie as tie
 
 -- One turn: the byte at an index is tested, and what is left is tested behind it.
 turn : (bs : List ℕ) (i : ℕ) (all : Bool) → i < length bs
-    → both (all && eqb (getD bs i 0) blankByte) (blankOf (drop (i + 1) bs)) ≡ both all (blankOf (drop i bs))
+    → ((all && eqb (getD bs i 0) blankByte) && blankOf (drop (i + 1) bs)) ≡ (all && blankOf (drop i bs))
 turn bs i true h = rw (add-one i, drop-cons bs i 0 h)
 turn bs i false h = refl
 
 -- Past the last byte the test stands.
-done : (bs : List ℕ) (i : ℕ) (all : Bool) → length bs ≤ i → both all (blankOf (drop i bs)) ≡ all
+done : (bs : List ℕ) (i : ℕ) (all : Bool) → length bs ≤ i → (all && blankOf (drop i bs)) ≡ all
 done bs i true h = rw (drop-of-length-le bs h)
 done bs i false h = refl
 
 abbrev Inv-loop : tie.InvT-loop
-Inv-loop bytes all₀ i₀ all i = (i ≤ length bytes) × (both all (blankOf (drop i bytes)) ≡ blankOf bytes)
+Inv-loop bytes all₀ i₀ all i = (i ≤ length bytes) × ((all && blankOf (drop i bytes)) ≡ blankOf bytes)
 
 abbrev μ-loop : tie.MeasureT-loop
 μ-loop bytes all₀ i₀ all i = length bytes - i

@@ -1,6 +1,6 @@
 -- `image::reading::read_image` meets its contract.
 use mathlib.Core.Path.{refl, sym, _∙_}
-use Rattle.part.specs.Kind.{kindOf}
+use Rattle.ground.specs.Kind.{kindOf}
 use Rattle.image.proofs.Replies.{reads-size, reads-long, reads-lines}
 use borrow.Author.Needs.{needs}
 use Rattle.image.proofs.reading.read_image.Statement.{statement}

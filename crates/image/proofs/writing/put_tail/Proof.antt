@@ -4,7 +4,7 @@ use mathlib.Core.List.{[], _∷_}
 use native.Mathlib.Omega.{arith}
 use borrow.Author.Needs.{needs}
 use Rattle.hexfile.specs.Pairs.{textOf}
-use Rattle.part.proofs.Rows.{sets-append}
+use Rattle.ground.proofs.Rows.{sets-append}
 use Rattle.image.proofs.writing.put_tail.Statement.{statement}
 use Rattle.image.proofs.writing.put_tail.Tie as tie
 

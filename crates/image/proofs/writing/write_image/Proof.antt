@@ -1,7 +1,7 @@
 -- `image::writing::write_image` meets its contract: both tests in their order, then the form over the buffer's start.
 use native.Mathlib.Omega.{arith}
 use borrow.Author.Needs.{needs}
-use Rattle.part.specs.Kind.{kindOf}
+use Rattle.ground.specs.Kind.{kindOf}
 use Rattle.image.proofs.Laid.{refuses-size, refuses-room, writes}
 use Rattle.image.proofs.writing.write_image.Statement.{statement}
 use Rattle.image.proofs.writing.write_image.Tie as tie

@@ -5,13 +5,13 @@ use native.Mathlib.Omega.{arith}
 use native.Mathlib.Numerals.{add-one}
 use borrow.Author.Needs.{needs}
 use lib.ListN.{length, drop, drop-of-length-le}
-use Rattle.part.specs.Cases.{some}
 use Rattle.part.proofs.Laws.{some-at, some-past}
 use Rattle.part.proofs.page.marked.Statement.{statement}
+use Rattle.part.specs.Page.{anyMarked}
 use Rattle.part.proofs.page.marked.Tie as tie
 
 abbrev Inv-loop : tie.InvT-loop
-Inv-loop marks i₀ i = (i ≤ 64) × (length marks ≡ 64) × (some marks ≡ some (drop i marks))
+Inv-loop marks i₀ i = (i ≤ 64) × (length marks ≡ 64) × (anyMarked marks ≡ anyMarked (drop i marks))
 
 abbrev μ-loop : tie.MeasureT-loop
 μ-loop marks i₀ i = 64 - i
@@ -44,7 +44,7 @@ returns-2 : tie.Need-returns-2 Inv-loop μ-loop
 returns-2 c =
     let inv = c .before .loop .inv in
     let h : length (c .before .before .args .t1) ≤ c .before .loop .i = omega arith in
-    sym (inv .2 ∙ ap some (drop-of-length-le (c .before .before .args .t1) h))
+    sym (inv .2 ∙ ap anyMarked (drop-of-length-le (c .before .before .args .t1) h))
 
 pub marked-spec : {M : Type 1} → statement M
 marked-spec =

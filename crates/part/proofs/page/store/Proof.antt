@@ -2,7 +2,8 @@
 use denote.Ref.{now}
 use mathlib.Core.Path.{sym}
 use Rattle.part.specs.Page.{storeOf, layOf, firstOf}
-use Rattle.part.proofs.Laws.{part-back, store-beyond}
+use Rattle.ground.proofs.Rows.{part-back}
+use Rattle.part.proofs.Laws.{store-beyond}
 use borrow.Author.Needs.{needs}
 use Rattle.part.proofs.page.store.Statement.{statement}
 use Rattle.part.proofs.page.store.Tie as tie

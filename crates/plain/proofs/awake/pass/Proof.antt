@@ -5,13 +5,12 @@ use mathlib.Core.Path.{_≡_, refl, sym, ap, subst, _∙_}
 use native.Mathlib.Omega.{arith}
 use borrow.Author.Needs.{needs, scaled-fits}
 use lib.ListN.{length}
-use Rattle.part.specs.Cases.{orZero, highest}
-use Rattle.part.specs.Kind.{kindOf}
+use Rattle.ground.specs.Cases.{orZero, highest}
+use Rattle.ground.specs.Kind.{kindOf}
 use Rattle.part.specs.Timers.{loadedOf}
 use Rattle.plain.proofs.Empty.{never}
 use Rattle.plain.proofs.Seeing.{frameOf, wireAt, same-lines, stop-seen, start-seen, fall-none, fall-bit, fall-byte, fall-ninth, low-seen}
-use Rattle.plain.proofs.Acting.{talkOf, quiet-acts, bit-heard, bit-sent, byte-past, byte-sent, byte-taken}
-use Rattle.plain.proofs.Acting.{ninth-past, ninth-heard, ninth-ends, ninth-fetches, stop-acts}
+use Rattle.plain.proofs.Acting.{talkOf, quiet-acts, bit-heard, bit-sent, byte-past, byte-sent, byte-taken, ninth-past, ninth-heard, ninth-ends, ninth-fetches, stop-acts}
 use Rattle.plain.proofs.Standing.{Stands, stands-first}
 use Rattle.plain.proofs.Going.{goes-none}
 use Rattle.plain.proofs.Turned.{Shown, turned, started}

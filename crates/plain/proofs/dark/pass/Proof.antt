@@ -6,8 +6,8 @@ use native.Mathlib.Omega.{arith}
 use native.Mathlib.Numerals.{add-one}
 use borrow.Author.Needs.{needs, scaled-fits}
 use lib.ListN.{length}
-use Rattle.part.specs.Kind.{kindOf}
-use Rattle.part.specs.declared.kinds.Kind.{Kind}
+use Rattle.ground.specs.Kind.{kindOf}
+use Rattle.ground.specs.declared.kinds.Kind.{Kind}
 use Rattle.plain.specs.Goes.{Goes, partOf}
 use Rattle.plain.specs.Rooms.{baseOf}
 use Rattle.plain.proofs.Going.{goes-none, goes-on}

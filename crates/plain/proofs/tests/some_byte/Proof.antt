@@ -1,18 +1,18 @@
 -- `plain::tests::some_byte` meets its contract: what was found so far or is still to be found is all that there is.
+use mathlib.Core.Bool.{_||_, or-false}
 use Prim.Native.Nat.{_≤_, _<_, _-_}
 use mathlib.Core.Path.{_≡_, refl, sym, _∙_, ap}
 use native.Mathlib.Omega.{arith}
 use native.Mathlib.Numerals.{add-one}
 use borrow.Author.Needs.{needs}
 use lib.ListN.{length, drop, drop-of-length-le}
-use Rattle.part.specs.Cases.{either}
 use Rattle.plain.specs.Tests.{someByte}
-use Rattle.plain.proofs.Empty.{byte-turn, either-none}
+use Rattle.plain.proofs.Empty.{byte-turn}
 use Rattle.plain.proofs.tests.some_byte.Statement.{statement}
 use Rattle.plain.proofs.tests.some_byte.Tie as tie
 
 abbrev Inv-loop : tie.InvT-loop
-Inv-loop bytes any₀ i₀ any i = (i ≤ 64) × (length bytes ≡ 64) × (either any (someByte (drop i bytes)) ≡ someByte bytes)
+Inv-loop bytes any₀ i₀ any i = (i ≤ 64) × (length bytes ≡ 64) × ((any || someByte (drop i bytes)) ≡ someByte bytes)
 
 abbrev μ-loop : tie.MeasureT-loop
 μ-loop bytes any₀ i₀ any i = 64 - i
@@ -44,7 +44,7 @@ returns c =
     let at = c .before .loop in
     let ms = c .before .before .args .t1 in
     let h : length ms ≤ at .i = omega (arith, at .inv .1) in
-    (sym (either-none (at .any)) ∙ ap (λ l. either (at .any) (someByte l)) (sym (drop-of-length-le ms h)) ∙ at .inv .2, at .inv .1)
+    (sym (or-false (at .any)) ∙ ap (λ l. (at .any || someByte l)) (sym (drop-of-length-le ms h)) ∙ at .inv .2, at .inv .1)
 
 pub some-byte-spec : {M : Type 1} → statement M
 some-byte-spec =

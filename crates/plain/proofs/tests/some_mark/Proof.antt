@@ -1,17 +1,18 @@
 -- `plain::tests::some_mark` meets its contract: what was found so far or is still to be found is all that there is.
+use mathlib.Core.Bool.{_||_, or-false}
 use Prim.Native.Nat.{_≤_, _<_, _-_}
 use mathlib.Core.Path.{_≡_, refl, sym, _∙_, ap}
 use native.Mathlib.Omega.{arith}
 use native.Mathlib.Numerals.{add-one}
 use borrow.Author.Needs.{needs}
 use lib.ListN.{length, drop, drop-of-length-le}
-use Rattle.part.specs.Cases.{either, some}
-use Rattle.plain.proofs.Empty.{mark-turn, either-none}
+use Rattle.plain.proofs.Empty.{mark-turn}
 use Rattle.plain.proofs.tests.some_mark.Statement.{statement}
+use Rattle.part.specs.Page.{anyMarked}
 use Rattle.plain.proofs.tests.some_mark.Tie as tie
 
 abbrev Inv-loop : tie.InvT-loop
-Inv-loop marks any₀ i₀ any i = (i ≤ 64) × (length marks ≡ 64) × (either any (some (drop i marks)) ≡ some marks)
+Inv-loop marks any₀ i₀ any i = (i ≤ 64) × (length marks ≡ 64) × ((any || anyMarked (drop i marks)) ≡ anyMarked marks)
 
 abbrev μ-loop : tie.MeasureT-loop
 μ-loop marks any₀ i₀ any i = 64 - i
@@ -43,7 +44,7 @@ returns c =
     let at = c .before .loop in
     let ms = c .before .before .args .t1 in
     let h : length ms ≤ at .i = omega (arith, at .inv .1) in
-    (sym (either-none (at .any)) ∙ ap (λ l. either (at .any) (some l)) (sym (drop-of-length-le ms h)) ∙ at .inv .2, at .inv .1)
+    (sym (or-false (at .any)) ∙ ap (λ l. (at .any || anyMarked l)) (sym (drop-of-length-le ms h)) ∙ at .inv .2, at .inv .1)
 
 pub some-mark-spec : {M : Type 1} → statement M
 some-mark-spec =

@@ -6,7 +6,8 @@ use native.Mathlib.Numerals.{add-one}
 use borrow.Author.Needs.{needs, scaled-fits}
 use borrow.Author.Tests.{le-leb, lt-leb}
 use lib.ListN.{length, drop}
-use Rattle.refusals.specs.Refusals.{meant, samplesOf, accepted}
+use Rattle.ground.specs.Verdict.{meant, accepted}
+use Rattle.refusals.specs.Refusals.{samplesOf}
 use Rattle.refusals.proofs.Laws.{samples-turn, samples-done}
 use Rattle.refusals.proofs.verdicts.faults.Statement.{statement}
 use Rattle.refusals.proofs.verdicts.faults.Tie as tie

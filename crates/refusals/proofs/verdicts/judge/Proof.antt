@@ -1,6 +1,7 @@
 -- `refusals::verdicts::judge` meets its contract.
 use borrow.Author.Tests.{eq-eqb, ne-eqb, le-leb, lt-leb}
-use Rattle.refusals.specs.Refusals.{meant, judgedOf}
+use Rattle.ground.specs.Verdict.{meant}
+use Rattle.refusals.specs.Refusals.{judgedOf}
 use borrow.Author.Needs.{needs}
 use Rattle.refusals.proofs.verdicts.judge.Statement.{statement}
 use Rattle.refusals.proofs.verdicts.judge.Tie as tie

@@ -1,6 +1,7 @@
 use borrow.Author.Tests.{le-leb, lt-leb}
-use Rattle.refusals.specs.Refusals.{meant, powerOf}
-use Rattle.refusals.proofs.Laws.{not-zero}
+use Rattle.ground.specs.Verdict.{meant}
+use Rattle.refusals.specs.Refusals.{powerOf}
+use Rattle.ground.proofs.Tests.{not-zero}
 use borrow.Author.Needs.{needs}
 use Rattle.refusals.proofs.verdicts.power.Statement.{statement}
 use Rattle.refusals.proofs.verdicts.power.Tie as tie

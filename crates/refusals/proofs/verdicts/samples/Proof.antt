@@ -1,6 +1,6 @@
 -- `refusals::verdicts::samples` meets its contract.
 use mathlib.Core.Path.{sym}
-use Rattle.refusals.specs.Refusals.{meant}
+use Rattle.ground.specs.Verdict.{meant}
 use Rattle.refusals.proofs.Laws.{samples-clean}
 use borrow.Author.Needs.{needs}
 use Rattle.refusals.proofs.verdicts.samples.Statement.{statement}

@@ -1,4 +1,4 @@
-use Rattle.refusals.proofs.Laws.{is-accepted, is-refused}
+use Rattle.ground.proofs.Verdicts.{is-accepted, is-refused}
 use borrow.Author.Needs.{needs}
 use Rattle.twin.proofs.power.power_up.Statement.{statement}
 use Rattle.twin.proofs.power.power_up.Tie as tie

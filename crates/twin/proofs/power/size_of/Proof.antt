@@ -1,6 +1,6 @@
 -- `twin::power::size_of` meets its contract.
 use Rattle.twin.specs.Power.{sizeMeant}
-use Rattle.refusals.proofs.Laws.{not-zero}
+use Rattle.ground.proofs.Tests.{not-zero}
 use borrow.Author.Needs.{needs}
 use Rattle.twin.proofs.power.size_of.Statement.{statement}
 use Rattle.twin.proofs.power.size_of.Tie as tie

@@ -1,6 +1,7 @@
 -- `twin::replays::replay` meets its contract.
 use denote.Ref.{now}
-use Rattle.refusals.proofs.Laws.{is-accepted, is-refused, rows-equal}
+use Rattle.ground.proofs.Verdicts.{is-accepted, is-refused}
+use Rattle.refusals.proofs.Laws.{rows-equal}
 use borrow.Author.Needs.{needs}
 use Rattle.twin.proofs.replays.replay.Statement.{statement}
 use Rattle.twin.proofs.replays.replay.Tie as tie

@@ -1,6 +1,6 @@
 // What kind of part a part number names.
 ghost use mathlib.Core.Path.{_≡_};
-ghost use Rattle.part.specs.Kind.{kindOf};
+ghost use Rattle.ground.specs.Kind.{kindOf};
 
 pub const X4323: u16 = 4323;
 

@@ -4,9 +4,9 @@ use mathlib.Core.Bool.{Bool, true, false}
 use mathlib.Core.Path.{_≡_, refl}
 use native.Mathlib.Omega.{arith}
 use lib.Dec.{eqb, ltb}
-use Rattle.part.specs.Numbers.{x4323, x4325, pageSize}
-use Rattle.part.specs.Kind.{kindBy, kindOf, known}
-use Rattle.part.specs.declared.kinds.Kind.{Kind}
+use Rattle.ground.specs.Numbers.{x4323, x4325, pageSize}
+use Rattle.ground.specs.Kind.{kindBy, kindOf, known}
+use Rattle.ground.specs.declared.kinds.Kind.{Kind}
 
 -- A kind whose array is some number of whole pages that a bus address reaches.
 pub record Sound (k : Kind) : Type 0 where

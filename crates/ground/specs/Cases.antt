@@ -1,24 +1,8 @@
--- Small words that tables of cases are made of.
+-- Small words that tables of cases are made of; joined tests, choices and equal truth values are the library's `_&&_`, `_||_`, `cond` and
+-- `Bool·beq`.
 use Prim.Native.Nat.{ℕ, _/_, _%_}
 use mathlib.Core.Bool.{Bool, true, false}
-use mathlib.Core.List.{List, [], _∷_}
 use lib.Dec.{eqb}
-
--- Both tests hold.
-abbrev pub both : Bool → Bool → Bool
-both true b = b
-both false b = false
-
--- One of two tests holds.
-abbrev pub either : Bool → Bool → Bool
-either true b = true
-either false b = b
-
--- Some test of a list holds.
-abbrev pub some : List Bool → Bool
-some [] = false
-some (true ∷ bs) = true
-some (false ∷ bs) = some bs
 
 -- The number if the test holds, else 0.
 abbrev pub orZero : Bool → ℕ → ℕ

@@ -1,8 +1,8 @@
--- `part::kinds::kind_of` meets its contract: each arm's number decides the two tests of `kindOf`.
+-- `ground::kinds::kind_of` meets its contract: each arm's number decides the two tests of `kindOf`.
 use borrow.Author.Tests.{eq-eqb, ne-eqb}
-use Rattle.part.specs.Kind.{kindOf}
-use Rattle.part.proofs.kinds.kind_of.Statement.{statement}
-use Rattle.part.proofs.kinds.kind_of.Tie as tie
+use Rattle.ground.specs.Kind.{kindOf}
+use Rattle.ground.proofs.kinds.kind_of.Statement.{statement}
+use Rattle.ground.proofs.kinds.kind_of.Tie as tie
 
 returns : tie.Need-returns
 unfolding kindOf

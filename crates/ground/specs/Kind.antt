@@ -2,8 +2,8 @@
 use Prim.Native.Nat.{ℕ}
 use mathlib.Core.Bool.{Bool, true, false}
 use lib.Dec.{eqb, ltb}
-use Rattle.part.specs.Numbers.{x4323, x4325, smallSize}
-use Rattle.part.specs.declared.kinds.Kind.{Kind}
+use Rattle.ground.specs.Numbers.{x4323, x4325, smallSize}
+use Rattle.ground.specs.declared.kinds.Kind.{Kind}
 
 -- X4323: RESET low when active; X4325: RESET high; any other number: no part (What goes in and what comes out).
 abbrev pub kindBy : Bool → Bool → Kind

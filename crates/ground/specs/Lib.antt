@@ -1,0 +1,4 @@
+pub mod Numbers
+pub mod Cases
+pub mod Kind
+pub mod Verdict
