@@ -16,7 +16,7 @@ use Rattle.sample.specs.Run.{partStep}
 use Rattle.twin.specs.Power.{poweredUp}
 use Rattle.claims.specs.BenchCases.{BenchCases}
 use Rattle.claims.proofs.Listed.LockCases.{p2, p3, p4}
-use Rattle.claims.proofs.Listed.ImageCases.{p10, p11}
+use Rattle.image_cases.proofs.ImageCases.{p10, p11}
 
 -- Each capture is computed, with every rule opened; the lock's cases and the images' are shown beside.
 pub bench-cases : BenchCases

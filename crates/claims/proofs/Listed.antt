@@ -1,3 +1,2 @@
 -- Bench cases that are shown by themselves.
 pub mod LockCases
-pub mod ImageCases

@@ -20,7 +20,7 @@ use Rattle.control.specs.Register.{readsOf}
 use Rattle.device.specs.Bytes.{byteOf}
 use Rattle.twin.specs.Power.{poweredUp}
 use Rattle.sample.specs.Run.{Part, runOf, answersOf}
-use Rattle.claims.specs.ImageCases.{P10, P11}
+use Rattle.image_cases.specs.ImageCases.{P10, P11}
 use Rattle.claims.specs.Reachable.{atPower}
 use Rattle.claims.specs.Traffic.{Capture, joined, wait, start, sent, awake, written, ordered, readAt}
 

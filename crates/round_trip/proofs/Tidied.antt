@@ -16,9 +16,9 @@ use Rattle.image.specs.Reading.{readingOf}
 use Rattle.image.specs.Writing.{imageText}
 use Rattle.image.proofs.Laid.{length-record, length-image, length-most}
 use Rattle.tidying.specs.Shown.{shownOf}
-use Rattle.claims.specs.RoundTrip.{imageRows, Takes, Lengths, Tidied}
-use Rattle.claims.proofs.Images.WrittenBack.{takes-rows}
-use Rattle.claims.proofs.RoundTrip.{reads-back, writes-back}
+use Rattle.round_trip.specs.RoundTrip.{imageRows, Takes, Lengths, Tidied}
+use Rattle.round_trip.proofs.Images.WrittenBack.{takes-rows}
+use Rattle.round_trip.proofs.RoundTrip.{reads-back, writes-back}
 
 -- A text that is not too long is all that is kept of it; of a longer one enough is kept to be too long.
 cut-by : (size : ℕ) (text : List ℕ) (b : Bool) → leb (length text) mostText ≡ b

@@ -15,12 +15,12 @@ use Rattle.hexfile.proofs.CellLaws.{length-settledOf}
 use Rattle.image.specs.Form.{mostText, rowSize, bytesOf}
 use Rattle.image.specs.Reading.{Reading, taken, saysOf, givenOf, linesRead, textBy, readingOf}
 use Rattle.image.specs.Writing.{rowsText, imageText}
-use Rattle.claims.specs.RoundTrip.{Rows, noReturn, endsInFeed, fixedLines, fixedForm, Takes}
-use Rattle.claims.proofs.Images.Texts.{lines-joined}
-use Rattle.claims.proofs.Images.Cells.{settled-bytes, given-length}
-use Rattle.claims.proofs.Images.Heeded.{last-said, line-said}
-use Rattle.claims.proofs.Images.Written.{image-text}
-use Rattle.claims.proofs.Images.RowsBack.{Stands, rows-back}
+use Rattle.round_trip.specs.RoundTrip.{Rows, noReturn, endsInFeed, fixedLines, fixedForm, Takes}
+use Rattle.round_trip.proofs.Images.Texts.{lines-joined}
+use Rattle.round_trip.proofs.Images.Cells.{settled-bytes, given-length}
+use Rattle.round_trip.proofs.Images.Heeded.{last-said, line-said}
+use Rattle.round_trip.proofs.Images.Written.{image-text}
+use Rattle.round_trip.proofs.Images.RowsBack.{Stands, rows-back}
 
 -- Lines that give an array give one byte for each cell.
 lines-rows : (n : ℕ) (ls : List (List ℕ)) (total place : ℕ) (cells array : List ℕ) → length cells ≡ n * rowSize

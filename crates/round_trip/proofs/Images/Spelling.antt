@@ -14,8 +14,8 @@ use Rattle.hexfile.proofs.DigitLaws.{Written, glyph-written}
 use Rattle.hexfile.proofs.LineLaws.{Plain}
 use Rattle.hexfile.proofs.PairLaws.{pair-fits, pair-split, pair-byte}
 use Rattle.image.proofs.Laid.{sum-append}
-use Rattle.claims.specs.RoundTrip.{allBytes, noReturn}
-use Rattle.claims.proofs.Images.Tests.{bytes-cons}
+use Rattle.round_trip.specs.RoundTrip.{allBytes, noReturn}
+use Rattle.round_trip.proofs.Images.Tests.{bytes-cons}
 
 -- What is known of a byte before others: it is one, its two digits are as they are written, and the others are bytes.
 record Spelled (b : ℕ) (bs : List ℕ) : Type 0 where

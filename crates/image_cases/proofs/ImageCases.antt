@@ -14,7 +14,7 @@ use Rattle.image.specs.Reading.{taken, bad, fresh, givenOf, recordSays, saysOf,
 use Rattle.image.specs.Writing.{recordText, imageText}
 use Rattle.image.specs.Promises.{imageOf, writeVerdict}
 use Rattle.tidying.specs.Shown.{shownOf, refusalLine, decimalOf}
-use Rattle.claims.specs.ImageCases.{paperArray, paperText, P10, P11}
+use Rattle.image_cases.specs.ImageCases.{paperArray, paperText, P10, P11}
 
 -- The text that the paper shows, read for 4,096 bytes, gives the image.
 shown-read : readingOf imageSize paperText ≡ taken paperArray

@@ -16,9 +16,9 @@ use Rattle.image.specs.Form.{imageSize}
 use Rattle.image.specs.Reading.{taken}
 use Rattle.image.specs.Writing.{imageText, lengthOf, mostLength}
 use Rattle.image.specs.Promises.{imageOf, ReadsImage, writeBy, writeVerdict, WritesImage}
-use Rattle.claims.specs.RoundTrip.{allBytes, Rows, ReadBack}
+use Rattle.round_trip.specs.RoundTrip.{allBytes, Rows, ReadBack}
 use Rattle.image.proofs.Laid.{length-image}
-use Rattle.claims.proofs.RoundTrip.{reads-back, rows-in-image}
+use Rattle.round_trip.proofs.RoundTrip.{reads-back, rows-in-image}
 
 -- A write is accepted only if its size is right, and then says its length.
 record Said (size : Bool) (long n : ℕ) : Type 0 where

@@ -18,13 +18,13 @@ use Rattle.image.specs.Form.{mostText, rowSize, dataType, endType, bytesOf, add
 use Rattle.image.specs.Reading.{taken, givenOf, linesRead, readingOf}
 use Rattle.image.specs.Writing.{rowBy, rowsText, rowsIn, imageText, rowLength, endLength}
 use Rattle.image.proofs.Laid.{length-rows, length-image, length-most}
-use Rattle.claims.specs.RoundTrip.{Rows, noReturn, endsInFeed, rowRecord, fixedLines, fixedForm, Takes}
-use Rattle.claims.proofs.Images.Tests.{bytes-parts, returns-append}
-use Rattle.claims.proofs.Images.Texts.{ends-append}
-use Rattle.claims.proofs.Images.Records.{lineOf, recordBytes, Writable, record-fields}
-use Rattle.claims.proofs.Images.Records.{record-first, record-returns, record-trimmed, record-read, record-gives}
-use Rattle.claims.proofs.Images.Records.{end-writable, end-line, end-feed, record-ends}
-use Rattle.claims.proofs.Images.Cells.{settled-same, settled-blank, given-at}
+use Rattle.round_trip.specs.RoundTrip.{Rows, noReturn, endsInFeed, rowRecord, fixedLines, fixedForm, Takes}
+use Rattle.round_trip.proofs.Images.Tests.{bytes-parts, returns-append}
+use Rattle.round_trip.proofs.Images.Texts.{ends-append}
+use Rattle.round_trip.proofs.Images.Records.{lineOf, recordBytes, Writable, record-fields}
+use Rattle.round_trip.proofs.Images.Records.{record-first, record-returns, record-trimmed, record-read, record-gives}
+use Rattle.round_trip.proofs.Images.Records.{end-writable, end-line, end-feed, record-ends}
+use Rattle.round_trip.proofs.Images.Cells.{settled-same, settled-blank, given-at}
 
 -- The first row of rows is 16 bytes long.
 row-size : (k : ℕ) (bs : List ℕ) → suc k * rowSize ≤ length bs → length (take rowSize bs) ≡ rowSize

@@ -21,10 +21,10 @@ use Rattle.image.specs.Form.{colon, dataType, endType, charactersIn, bytesOf, c
 use Rattle.image.specs.Form.{wellFormed, typed, inside}
 use Rattle.image.specs.Reading.{gives, ends, fresh, recordSays, saysOf}
 use Rattle.image.specs.Writing.{fieldsOf, recordText}
-use Rattle.claims.specs.RoundTrip.{allBytes, noReturn, endsInFeed}
-use Rattle.claims.proofs.Images.Tests.{bytes-append, returns-append}
-use Rattle.claims.proofs.Images.Spelling.{pairs-text, paired-text, text-plain, text-returns, checked, check-sound}
-use Rattle.claims.proofs.Images.Texts.{trimmed-same}
+use Rattle.round_trip.specs.RoundTrip.{allBytes, noReturn, endsInFeed}
+use Rattle.round_trip.proofs.Images.Tests.{bytes-append, returns-append}
+use Rattle.round_trip.proofs.Images.Spelling.{pairs-text, paired-text, text-plain, text-returns, checked, check-sound}
+use Rattle.round_trip.proofs.Images.Texts.{trimmed-same}
 
 -- The line of bytes: a colon and their digits.
 abbrev pub lineOf : List ℕ → List ℕ

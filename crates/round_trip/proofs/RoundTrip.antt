@@ -14,9 +14,9 @@ use native.Mathlib.Omega.{arith}
 use Rattle.part.specs.Kind.{kindOf}
 use Rattle.image.specs.Form.{imageSize, rowSize, mostText}
 use Rattle.image.specs.Writing.{imageText, rowLength, endLength}
-use Rattle.claims.specs.RoundTrip.{Rows, fixedForm, imageRows, Takes, Writers, Fixed, RoundTrip}
-use Rattle.claims.proofs.Images.Written.{image-read, image-fixed}
-use Rattle.claims.proofs.Images.WrittenBack.{image-back, takes-rows}
+use Rattle.round_trip.specs.RoundTrip.{Rows, fixedForm, imageRows, Takes, Writers, Fixed, RoundTrip}
+use Rattle.round_trip.proofs.Images.Written.{image-read, image-fixed}
+use Rattle.round_trip.proofs.Images.WrittenBack.{image-back, takes-rows}
 
 -- Written, then read: an array of whole rows comes back.
 pub reads-back : (n : ℕ) (array : List ℕ) → Rows n array → rowLength * n + endLength ≤ mostText

@@ -10,7 +10,7 @@ use Rattle.part.specs.Cases.{both}
 use Rattle.part.specs.Numbers.{byteValues}
 use Rattle.hexfile.specs.Lines.{carriageReturn}
 use Rattle.part.proofs.Laws.{both-split}
-use Rattle.claims.specs.RoundTrip.{all, allBytes, noReturn}
+use Rattle.round_trip.specs.RoundTrip.{all, allBytes, noReturn}
 
 -- Three tests hold together however they are bracketed.
 both-assoc : (a b c : Bool) → both a (both b c) ≡ both (both a b) c

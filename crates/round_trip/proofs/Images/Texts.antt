@@ -11,8 +11,8 @@ use lib.Seq.{getD-append-add}
 use borrow.Author.Tests.{eqb-true}
 use Rattle.hexfile.specs.Lines.{lineFeed, joinBy, linesOf, trimmed}
 use Rattle.hexfile.proofs.LineLaws.{trim-none}
-use Rattle.claims.specs.RoundTrip.{noReturn, endsInFeed}
-use Rattle.claims.proofs.Images.Tests.{return-at}
+use Rattle.round_trip.specs.RoundTrip.{noReturn, endsInFeed}
+use Rattle.round_trip.proofs.Images.Tests.{return-at}
 
 -- Lines as a text, each with its line feed.
 abbrev pub joined : List (List ℕ) → List ℕ

@@ -19,12 +19,12 @@ use Rattle.hexfile.proofs.CellLaws.{length-settledOf, settled-append, settled-n
 use Rattle.image.specs.Form.{rowSize, dataType, endType, bytesOf, countOf, addressOf, typeOf, dataOf}
 use Rattle.image.specs.Reading.{Reading, taken, saysOf, givenOf, linesRead}
 use Rattle.image.specs.Writing.{recordText, rowBy, rowsText}
-use Rattle.claims.specs.RoundTrip.{allBytes, noReturn, rowRecord, fixedLines}
-use Rattle.claims.proofs.Images.Tests.{returns-split}
-use Rattle.claims.proofs.Images.Texts.{joined, trimmed-same}
-use Rattle.claims.proofs.Images.RecordsBack.{line-back, data-length, data-bytes}
-use Rattle.claims.proofs.Images.Cells.{settled-same, more-rows, given-next}
-use Rattle.claims.proofs.Images.Heeded.{Heeded, heeded, heeds, last-said, line-said, end-bare, row-type, row-inside}
+use Rattle.round_trip.specs.RoundTrip.{allBytes, noReturn, rowRecord, fixedLines}
+use Rattle.round_trip.proofs.Images.Tests.{returns-split}
+use Rattle.round_trip.proofs.Images.Texts.{joined, trimmed-same}
+use Rattle.round_trip.proofs.Images.RecordsBack.{line-back, data-length, data-bytes}
+use Rattle.round_trip.proofs.Images.Cells.{settled-same, more-rows, given-next}
+use Rattle.round_trip.proofs.Images.Heeded.{Heeded, heeded, heeds, last-said, line-said, end-bare, row-type, row-inside}
 
 -- A row's text comes before that of the rows after it.
 rows-first : (k address : ℕ) (row rest : List ℕ) → length row ≡ rowSize

@@ -17,10 +17,10 @@ use Rattle.part.proofs.Laws.{both-split}
 use Rattle.hexfile.proofs.PairLaws.{length-pairsOf, text-pairs}
 use Rattle.image.specs.Form.{colon, charactersIn, bytesOf, countOf, addressOf, typeOf, dataOf, wellFormed}
 use Rattle.image.specs.Writing.{fieldsOf, recordText}
-use Rattle.claims.specs.RoundTrip.{allBytes}
-use Rattle.claims.proofs.Images.Tests.{bytes-at, bytes-parts}
-use Rattle.claims.proofs.Images.Spelling.{pairs-bytes, checked, check-last}
-use Rattle.claims.proofs.Images.Records.{recordBytes}
+use Rattle.round_trip.specs.RoundTrip.{allBytes}
+use Rattle.round_trip.proofs.Images.Tests.{bytes-at, bytes-parts}
+use Rattle.round_trip.proofs.Images.Spelling.{pairs-bytes, checked, check-last}
+use Rattle.round_trip.proofs.Images.Records.{recordBytes}
 
 -- A list of n + 1 elements is its first n and then the last.
 last-split : (bs : List ℕ) (n : ℕ) → length bs ≡ suc n → bs ≡ take n bs ++ (getD bs n 0 ∷ [])

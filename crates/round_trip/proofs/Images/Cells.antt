@@ -14,8 +14,8 @@ use Rattle.hexfile.specs.Cells.{notGiven, byteBy, settledOf, blankOf}
 use Rattle.hexfile.proofs.CellLaws.{length-giveOf, settled-none, give-front, blank-same}
 use Rattle.image.specs.Form.{rowSize, addressOf, dataOf}
 use Rattle.image.specs.Reading.{givenOf}
-use Rattle.claims.specs.RoundTrip.{allBytes}
-use Rattle.claims.proofs.Images.Tests.{bytes-cons}
+use Rattle.round_trip.specs.RoundTrip.{allBytes}
+use Rattle.round_trip.proofs.Images.Tests.{bytes-cons}
 
 -- Cells settle to bytes.
 pub settled-bytes : (cs : List ℕ) → allBytes (settledOf cs) ≡ true
