@@ -1,12 +1,3 @@
 pub mod BenchList
-pub mod Bending
 pub mod Demand1
-pub mod Demand2
-pub mod Demand3
-pub mod Holds
-pub mod Kept
-pub mod Listed
 pub mod OneReply
-pub mod Reachable
-pub mod Sent
-pub mod Witness

@@ -1,10 +1,3 @@
 pub mod BenchCases
-pub mod Bent
 pub mod Demand1
-pub mod Demand2
-pub mod Differ
-pub mod Occurs
 pub mod OneReply
-pub mod Reachable
-pub mod Sending
-pub mod Traffic

@@ -1,2 +1,0 @@
--- Bench cases that are shown by themselves.
-pub mod LockCases
