@@ -15,27 +15,28 @@ use Rattle.refusals.specs.Refusals.{accepted, judgedOf}
 use Rattle.control.specs.Register.{readsOf}
 use Rattle.twin.specs.Power.{poweredUp}
 use Rattle.sample.specs.Run.{Part, runOf, answersOf}
-use Rattle.reachable.specs.Reachable.{atPower}
 use Rattle.waves.specs.Waves.{Capture, joined, wait, start, sent, awake, written, ordered, readAt}
 
--- A part after moves from power-up, with select 0, stored byte 00h and an array all FFh (State and time, power-up).
-abbrev pub partOf : ℕ → List Capture → Part
-partOf part ms =
-    runOf (joined ms .times) (joined ms .levels) (atPower part 0 0 (replicate (kindOf part .size) 0xFF))
+-- A part at power-up, with select 0, stored byte 00h and an array all FFh (State and time, power-up).
+abbrev pub fresh : ℕ → Part
+fresh part = record { state = poweredUp part 0 0; array = replicate (kindOf part .size) 0xFF }
 
--- The answers of such a part, a byte for each sample (What goes in and what comes out).
+-- Such a part after moves (State and time, each sample).
+abbrev pub partOf : ℕ → List Capture → Part
+partOf part ms = runOf (joined ms .times) (joined ms .levels) (fresh part)
+
+-- Its answers, a byte for each sample (What goes in and what comes out).
 abbrev pub answers : ℕ → List Capture → List ℕ
-answers part ms =
-    answersOf (joined ms .times) (joined ms .levels) (atPower part 0 0 (replicate (kindOf part .size) 0xFF))
+answers part ms = answersOf (joined ms .times) (joined ms .levels) (fresh part)
 
 -- The replay of such moves is accepted, with as many samples as there are (Refusal numbers, 4 to 10).
 abbrev pub Accepted : ℕ → List Capture → Type 0
 Accepted part ms =
     judgedOf
-    (poweredUp part 0 0)
+    (fresh part .state)
     (joined ms .times)
     (joined ms .levels)
-    (replicate (kindOf part .size) 0xFF)
+    (fresh part .array)
     (replicate (length (joined ms .levels)) 0)
     ≡ accepted (length (joined ms .levels))
 
