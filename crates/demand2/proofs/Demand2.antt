@@ -22,7 +22,8 @@ use Rattle.sample.specs.Run.{Part, partStep, runOf, answersOf}
 use Rattle.twin.specs.Promises.{Replays, Runs}
 use Rattle.demand2.specs.Demand2.{ByRules, Pieces, Counted, Demand2}
 use Rattle.demand2.proofs.Replies.{meant-one}
-use Rattle.ranges.proofs.InRange.{Fit, run-fit}
+use Rattle.ranges.specs.Fit.{Fit}
+use Rattle.ranges.proofs.InRange.{run-fit}
 
 -- Rows joined are run one after the other.
 pub run-append : (es₁ ls₁ es₂ ls₂ : List ℕ) (p : Part) → length es₁ ≡ length ls₁

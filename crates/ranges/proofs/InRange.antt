@@ -43,6 +43,7 @@ use Rattle.sample.specs.Sample.{withWire, begun, latchedBy, opensOf, resetOf, s
 use Rattle.sample.specs.Sample.{lineOf, seenOf, wiredOf, goesOnBy, stepOf}
 use Rattle.sample.proofs.Sampled.{array-length}
 use Rattle.sample.specs.Run.{Part, partStep, runOf}
+use Rattle.ranges.specs.Fit.{Fit}
 use Rattle.ranges.proofs.Signs.{Saw, saw}
 use Rattle.ranges.proofs.Times.{Times, timed-times, supplied-times, watched-times, begun-times}
 
@@ -287,12 +288,7 @@ pub step-part : (e level : ℕ) (array : List ℕ) (s : State) → stepOf e leve
 unfolding stepOf opensOf
 step-part e level array s = goes-part (opensOf e level s .timers .reset) level array (opensOf e level s)
 
--- A part that passes the tests of refusals 4 and 5: the ranges, and an array of its kind's size.
-pub record Fit (p : Part) : Type 0 where
-  pub range : inRange (p .state) ≡ true
-  pub size : length (p .array) ≡ kindOf (p .state .part) .size
-
--- Rows keep it, first sample first.
+-- A part that is fit for a replay is so after any rows, first sample first.
 pub run-fit : (es ls : List ℕ) (p : Part) → Fit p → Fit (runOf es ls p)
 unfolding partStep
 run-fit [] ls p g = g

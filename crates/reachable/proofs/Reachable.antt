@@ -20,7 +20,8 @@ use Rattle.sample.specs.Run.{Part, partStep, runOf}
 use Rattle.twin.specs.Power.{poweredUp}
 use Rattle.reachable.specs.Reachable.{atPower, Reachable, speaks, sendsNow, Lowers, acknowledges, sendsZero, Keeps}
 use Rattle.reachable.proofs.Kept.Talks.{Voice, rests, answers, sends, fresh}
-use Rattle.ranges.proofs.InRange.{Within, within-range, Fit, run-fit}
+use Rattle.ranges.specs.Fit.{Fit}
+use Rattle.ranges.proofs.InRange.{Within, within-range, run-fit}
 use Rattle.reachable.proofs.Kept.Steps.{Sits, step-sits}
 
 -- An accepted power-up has passed the tests of refusals 1 to 3.
