@@ -1,16 +1,3 @@
 pub mod BenchList
-pub mod Bending
 pub mod Demand1
-pub mod Demand2
-pub mod Demand3
-pub mod Holds
-pub mod Images
-pub mod Kept
-pub mod Listed
 pub mod OneReply
-pub mod Operations
-pub mod Reachable
-pub mod RoundTrip
-pub mod Sent
-pub mod Tidied
-pub mod Witness

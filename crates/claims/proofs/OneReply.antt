@@ -1,24 +1,15 @@
 -- There is only one possible reply: for each public operation and every input, two outcomes that both keep what the
 -- operation promises are one and the same, in every part. It rests on the promises alone. No axiom is used.
 use mathlib.Core.Path.{_≡_, refl, sym}
-use Rattle.ground.specs.Verdict.{meant}
-use Rattle.ground.specs.declared.Reply.{Reply}
-use Rattle.ground.specs.declared.Reply.the-variants.{Accepted, Refused}
-use Rattle.ground.proofs.Verdicts.{apart}
+use Rattle.refusals.specs.Refusals.{meant}
+use Rattle.refusals.proofs.Laws.{apart}
 use Rattle.twin.specs.Power.{sizeMeant}
 use Rattle.twin.specs.declared.replays.Replayed.{Replayed}
 use Rattle.twin.specs.declared.power.Size.{Size}
 use Rattle.twin.specs.declared.power.Size.the-variants.{Bytes, Unknown}
 use Rattle.transfers.specs.declared.Listed.{Listed}
+use Rattle.demand2.proofs.Replies.{meant-one}
 use Rattle.claims.specs.OneReply.{OneReply}
-
--- Two replies that mean the same are the same.
-pub meant-one : (r q : Reply) → meant r ≡ meant q → r ≡ q
-unfolding meant
-meant-one (Accepted n) (Accepted m) e = cc
-meant-one (Accepted n) (Refused k p) e = absurd (apart k p n (sym e))
-meant-one (Refused k p) (Accepted n) e = absurd (apart k p n e)
-meant-one (Refused k p) (Refused j q) e = cc
 
 -- Two sizes that mean the same are the same.
 pub size-one : (r q : Size) → sizeMeant r ≡ sizeMeant q → r ≡ q

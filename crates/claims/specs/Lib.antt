@@ -1,12 +1,3 @@
 pub mod BenchCases
-pub mod Bent
-pub mod ImageCases
 pub mod Demand1
-pub mod Demand2
-pub mod Differ
-pub mod Occurs
 pub mod OneReply
-pub mod Reachable
-pub mod RoundTrip
-pub mod Sending
-pub mod Traffic

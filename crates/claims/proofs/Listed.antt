@@ -1,3 +1,0 @@
--- Bench cases that are shown by themselves.
-pub mod LockCases
-pub mod ImageCases

@@ -1,0 +1,2 @@
+pub mod Bending
+pub mod Witness

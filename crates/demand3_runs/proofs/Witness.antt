@@ -1,0 +1,62 @@
+-- The runs of demand 3, computed: each number below comes out of the sheet's rules, sample by sample. Assumes nothing.
+use Prim.Native.Nat.{ℕ}
+use mathlib.Core.List.{List}
+use mathlib.Core.Path.{refl, sym, _∙_}
+use lib.ListN.{set, replicate, length-set}
+use lib.Seq.{getD-set-other}
+use Rattle.ground.specs.Kind.{kindOf}
+use Rattle.ground.specs.Numbers.{smallSize}
+use Rattle.part.specs.Timers.{loadedOf, timedOf, suppliedOf}
+use Rattle.part.specs.Lock.{extentOf, lockedOf}
+use Rattle.part.specs.Page.{storeOf}
+use Rattle.wire.specs.Sign.{fallSign, fallFrame, signOf, wireOf}
+use Rattle.refusals.specs.Refusals.{inRange, judgedOf}
+use Rattle.control.specs.Register.{orderOf, carriedOut}
+use Rattle.device.specs.Bytes.{slaveOf, highOf, lowOf, takenOf, byteOf, keptOf, bitOf, ninthOf}
+use Rattle.device.specs.Ends.{startedOf, stoppedOf, endedOf}
+use Rattle.sample.specs.Level.{answerOf}
+use Rattle.sample.specs.Sample.{opensOf, resetOf, startOf, stopOf, byteStep, seenOf, wiredOf, stepOf, arrayOf}
+use Rattle.sample.specs.Run.{partStep}
+use Rattle.twin.specs.Power.{poweredUp}
+use Rattle.demand3.specs.Sending.{sentOf}
+use Rattle.demand3.specs.Differ.{EqualBut, covers}
+use Rattle.demand3_runs.specs.Bent.{lowestFirst, readsAnew, keepsWithheld}
+use Rattle.demand3_runs.specs.Occurs.{spot, Occurs}
+
+-- Two arrays that were set at one address are equal but for it.
+set-equal-but : (xs : List ℕ) (a v w : ℕ) → EqualBut a (set xs a v) (set xs a w)
+set-equal-but xs a v w =
+    record {
+      lengths = length-set xs a v ∙ sym (length-set xs a w);
+      others = λ i h. getD-set-other xs a i v 0 h ∙ sym (getD-set-other xs a i w 0 h);
+    }
+
+-- The runs of demand 3.
+pub occurs : Occurs
+unfolding inRange judgedOf poweredUp partStep stepOf arrayOf opensOf resetOf startOf stopOf byteStep seenOf wiredOf answerOf
+    sentOf covers lowestFirst readsAnew keepsWithheld kindOf loadedOf timedOf suppliedOf extentOf lockedOf storeOf
+    fallSign fallFrame signOf wireOf orderOf carriedOut slaveOf highOf lowOf takenOf byteOf keptOf bitOf ninthOf
+    startedOf stoppedOf endedOf
+occurs =
+    record {
+      arrays = set-equal-but (replicate smallSize 0xFF) spot 0x4C 0x5C;
+      size = refl;
+      read = record { taken = refl; reached = refl; differ = refl; covered = refl; demanded = refl };
+      other = record { taken = refl; reached = refl; differ = refl; covered = refl; demanded = refl };
+      write = record { taken = refl; reached = refl; differ = refl; covered = refl; demanded = refl };
+      unset = record { taken = refl; reached = refl; differ = refl; covered = refl; demanded = refl };
+      locked = record { taken = refl; reached = refl; differ = refl; covered = refl; demanded = refl };
+      before = record { taken = refl; reached = refl; differ = refl; covered = refl; demanded = refl };
+      passed = record { taken = refl; reached = refl; differ = refl; covered = refl; demanded = refl };
+      from = (refl, refl);
+      covering = (refl, refl);
+      cut = record { taken = refl; reached = refl; differ = refl; covered = refl; demanded = refl };
+      held = (refl, refl);
+      lowest = record { differ = refl; fails = refl };
+      lowest-spares = refl;
+      anew = record { differ = refl; fails = refl };
+      anew-spares = refl;
+      kept-unset = record { differ = refl; fails = refl };
+      kept-locked = record { differ = refl; fails = refl };
+      kept-spares = refl;
+    }

@@ -1,0 +1,139 @@
+-- Demand 3 is not empty: runs that reach an unequal bit, that are covered before, and that do neither; and for each of three
+-- bent steps a run for which demand 3 fails. Two X4323 of select 0, whose arrays of 4,096 bytes differ at one address in one
+-- bit (demand 3; document 01, State and time, a byte being sent).
+use Prim.Native.Nat.{ℕ}
+use mathlib.Core.Bool.{Bool, true, false}
+use mathlib.Core.List.{List, [], _∷_, _++_}
+use mathlib.Core.Path.{_≡_}
+use lib.ListN.{length, take, set, replicate}
+use Rattle.ground.specs.Numbers.{x4323, smallSize, writeTime}
+use Rattle.ground.specs.Verdict.{accepted}
+use Rattle.refusals.specs.Refusals.{judgedOf}
+use Rattle.sample.specs.Run.{Part, partStep, runOf, answersOf}
+use Rattle.twin.specs.Power.{poweredUp}
+use Rattle.demand3.specs.Sending.{nothing}
+use Rattle.demand3.specs.Differ.{When, never, sample, EqualBut, firstReach, firstDiff, firstCover, elsewhere, sentAfter, coversNone}
+use Rattle.waves.specs.Waves.{Capture, joined, after, wait, awake, written, ordered, readAt}
+use Rattle.demand3_runs.specs.Bent.{Step, diffUnder, holdsFor, lowestFirst, readsAnew, keepsWithheld}
+
+-- The address at which the arrays differ.
+abbrev pub spot : ℕ
+spot = 0x0345
+
+-- A part at power-up with a stored control byte, its array all FFh but for the address (State and time, power-up).
+abbrev pub holding : ℕ → ℕ → Part
+holding stored v = record { state = poweredUp x4323 0 stored; array = set (replicate smallSize 0xFF) spot v }
+
+-- One part holds 0100 1100 at the address, nothing is locked.
+abbrev pub left : Part
+left = holding 0x00 0x4C
+
+-- The other holds 0101 1100: the fourth bit is unequal.
+abbrev pub right : Part
+right = holding 0x00 0x5C
+
+-- The one with everything locked, BP code 3 (Control register).
+abbrev pub lockedLeft : Part
+lockedLeft = holding 0x18 0x4C
+
+-- The other with everything locked.
+abbrev pub lockedRight : Part
+lockedRight = holding 0x18 0x5C
+
+-- The address is read (Bytes on the wire, read).
+abbrev pub readIt : Capture
+readIt = joined (awake ++ readAt spot)
+
+-- Another address is read (Bytes on the wire, read).
+abbrev pub readOther : Capture
+readOther = joined (awake ++ readAt 0x0346)
+
+-- A byte is sent to the address, and after the write time the address is read (Bytes on the wire, array data, stop, read).
+abbrev pub writeAndRead : List Capture
+writeAndRead = written spot (0x77 ∷ []) ++ wait writeTime ∷ readAt spot
+
+-- That with WEL low, so that the byte is withheld (Bytes on the wire, array data).
+abbrev pub unsetWrite : Capture
+unsetWrite = joined (awake ++ writeAndRead)
+
+-- That with WEL set (Control register, RWEL low).
+abbrev pub setWrite : Capture
+setWrite = joined (awake ++ ordered 0x02 ++ writeAndRead)
+
+-- So many samples into that capture the byte has been fetched and its second bit is out.
+abbrev pub partWay : ℕ
+partWay = 121
+
+-- The state there over the array of a part: the byte being sent was fetched before (State and time, a byte being sent).
+abbrev pub midway : Part → Part
+midway p =
+    record { state = runOf (take partWay (readIt .times)) (take partWay (readIt .levels)) left .state; array = p .array }
+
+-- Another address is read, then the address is covered, with WEL set (Bytes on the wire, array data, stop, read).
+abbrev pub readThenWrite : Capture
+readThenWrite = joined (awake ++ readAt 0x0346 ++ ordered 0x02 ++ writeAndRead)
+
+-- The first so many samples of a capture.
+abbrev pub cutAt : ℕ → Capture → Capture
+cutAt n c = record { times = take n (c .times); levels = take n (c .levels) }
+
+-- The read cut off after its third bit: the byte of the address is being sent, and only equal bits have been out.
+abbrev pub cutRead : Capture
+cutRead = cutAt 124 readIt
+
+-- The byte being sent after a capture, as far as it is not sent yet (State and time, a byte being sent).
+abbrev pub stillHeld : Part → Capture → ℕ
+stillHeld p c = runOf (c .times) (c .levels) p .state .device .talk .out
+
+-- Demand 3 of a step, two parts and a capture, as far as it is computed: see holdsFor (demand 3).
+abbrev pub holdsOf : Step → Part → Part → Capture → Bool
+holdsOf step p q c = holdsFor step spot (c .times) (c .levels) p q
+
+-- Nothing fetched from the address is being sent after a capture (demand 3).
+abbrev pub elsewhereAfter : Capture → Bool
+elsewhereAfter c = elsewhere spot (sentAfter (c .times) (c .levels) left nothing)
+
+-- No sample of a capture covers the address (demand 3).
+abbrev pub uncoveredBy : Capture → Bool
+uncoveredBy c = coversNone spot (c .times) (c .levels) left
+
+-- Under the sheet's rules: where a bit is reached and the answers differ, where the address is covered; demand 3 holds.
+pub record Comes (p q : Part) (c : Capture) (reach cover : When) : Type 0 where
+  pub taken : judgedOf (p .state) (c .times) (c .levels) (p .array) (replicate (length (c .levels)) 0) ≡ accepted (length (c .levels))
+  pub reached : firstReach spot 0 (c .times) (c .levels) p q nothing nothing ≡ reach
+  pub differ : firstDiff 0 (answersOf (c .times) (c .levels) p) (answersOf (c .times) (c .levels) q) ≡ reach
+  pub covered : firstCover spot 0 (c .times) (c .levels) p ≡ cover
+  pub demanded : holdsOf partStep p q c ≡ true
+
+-- Under a bent step: where the answers differ; demand 3 fails.
+pub record Breaks (step : Step) (p q : Part) (c : Capture) (first : When) : Type 0 where
+  pub differ : diffUnder step (c .times) (c .levels) p q ≡ first
+  pub fails : holdsOf step p q c ≡ false
+
+-- The runs, all computed (demand 3).
+pub record Occurs : Type 0 where
+  -- the arrays are as demand 3 asks
+  pub arrays : EqualBut spot (left .array) (right .array)
+  pub size : length (left .array) ≡ smallSize
+  -- under the sheet's rules
+  pub read : Comes left right readIt (sample 126) never
+  pub other : Comes left right readOther never never
+  pub write : Comes left right setWrite never (sample 230)
+  pub unset : Comes left right unsetWrite (sample 241) never
+  pub locked : Comes lockedLeft lockedRight setWrite (sample 355) never
+  pub before : Comes (midway left) (midway right) (after partWay readIt) never never
+  pub passed : Comes left right readThenWrite never (sample 375)
+  -- what is being sent, and whether a write covers
+  pub from : (elsewhereAfter cutRead ≡ false) × (elsewhereAfter (cutAt 124 readOther) ≡ true)
+  pub covering : (uncoveredBy unsetWrite ≡ true) × (uncoveredBy setWrite ≡ false)
+  -- cut off before the unequal bit, the states differ in the byte being sent, and in nothing else by demand 3
+  pub cut : Comes left right cutRead never never
+  pub held : (stillHeld left cutRead ≡ 0x30) × (stillHeld right cutRead ≡ 0x70)
+  -- under the bent steps, and for each a run on which demand 3 still holds
+  pub lowest : Breaks lowestFirst left right readIt (sample 129)
+  pub lowest-spares : holdsOf lowestFirst left right setWrite ≡ true
+  pub anew : Breaks readsAnew (midway left) (midway right) (after partWay readIt) (sample 5)
+  pub anew-spares : holdsOf readsAnew left right readIt ≡ true
+  pub kept-unset : Breaks keepsWithheld left right unsetWrite never
+  pub kept-locked : Breaks keepsWithheld lockedLeft lockedRight setWrite never
+  pub kept-spares : holdsOf keepsWithheld left right readIt ≡ true

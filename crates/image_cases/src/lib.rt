@@ -1,0 +1,1 @@
+// No function: the bench cases of image files. specs/ says it, proofs/ shows it.

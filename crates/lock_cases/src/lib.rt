@@ -1,0 +1,1 @@
+// No function: the bench cases of the block lock. specs/ says it, proofs/ shows it.

@@ -1,0 +1,164 @@
+-- What holds of every sample that a reachable part is given: no start and no stop while it holds SDA low, and marks only
+-- in the counter's page. Assumes nothing.
+use Prim.Native.Nat.{ℕ}
+use mathlib.Core.Bool.{Bool, true, false, true≢false}
+use mathlib.Core.List.{List}
+use mathlib.Core.Path.{_≡_, refl, ap, sym, _∙_}
+use lib.Dec.{eqb, ltb}
+use lib.ListN.{getD, set, getD-replicate, List·getD-eq-default}
+use lib.Seq.{getD-set-other}
+use borrow.Author.Tests.{ltb-true, ltb-false, eqb-true, eqb-false}
+use Rattle.ground.specs.Numbers.{pageSize}
+use Rattle.ground.specs.Kind.{kindOf}
+use Rattle.part.specs.Page.{pageOf, inPage, emptyLoad, marked}
+use Rattle.ground.specs.declared.kinds.Kind.{Kind}
+use Rattle.part.specs.declared.state.Frame.{Frame}
+use Rattle.part.specs.declared.state.Phase.{Phase}
+use Rattle.part.specs.declared.state.Phase.the-variants.{Idle, Silent, Slave, High, Low, Data, Register, Send, SendRegister}
+use Rattle.part.specs.declared.state.Device.{Device}
+use Rattle.part.specs.declared.state.Load.{Load}
+use Rattle.part.specs.declared.state.Place.{Place}
+use Rattle.part.specs.declared.state.State.{State}
+use Rattle.part.proofs.Places.{page-stays}
+use Rattle.wire.specs.Sign.{allButOne, fallSignBy, fallSign, signBy, signOf}
+use Rattle.wire.specs.declared.Sign.{Sign}
+use Rattle.wire.specs.declared.Sign.the-variants.{Quiet, Start, Stop, Bit, Byte, Ninth}
+use Rattle.device.specs.Bytes.{takenOf, dataBy, byteIn, byteOf, keptBy, keptIn, keptOf, bitOf, ninthOf}
+use Rattle.device.proofs.Phases.{bit-stays, ninth-releases}
+use Rattle.sample.specs.Level.{sclOf, sdaOf, wpOf}
+use Rattle.sample.specs.Sample.{opensOf, resetOf, startOf, stopOf, byteStep, heardBy, lineOf, seenOf, wiredOf, goesOnBy, stepOf}
+use Rattle.sample.specs.Run.{Part, partStep}
+use Rattle.reachable.specs.Reachable.{Reachable, Holds}
+use Rattle.reachable.proofs.Kept.Steps.{Sits, low-line}
+use Rattle.reachable.proofs.Reachable.{Stands, reachable-stands}
+
+-- The two signs that begin and end a talk.
+abbrev isEnd : Sign → Bool
+isEnd Quiet = false
+isEnd Start = true
+isEnd (Stop n) = true
+isEnd Bit = false
+isEnd (Byte v) = false
+isEnd (Ninth b) = false
+
+-- A fall is none of them.
+fall-inside : (h s e : Bool) (f : Frame) → isEnd (fallSignBy h s e f) ≡ false
+fall-inside false s e f = refl
+fall-inside true true e f = refl
+fall-inside true false true f = refl
+fall-inside true false false f = refl
+
+-- Nor is what is seen on a line that is low, and was low if SCL was high.
+low-inside : (a b c d : Bool) (f : Frame) → d ≡ false → (a ≡ true → c ≡ false) → isEnd (signBy a b c d f) ≡ false
+unfolding fallSign
+low-inside true true true true f e h = cc
+low-inside true true true false f e h = cc (h refl)
+low-inside true true false true f e h = cc
+low-inside true true false false f e h = refl
+low-inside true false c d f e h = fall-inside (f .held) (ltb (f .bits) allButOne) (eqb (f .bits) allButOne) f
+low-inside false b c d f e h = refl
+
+-- Nor is what a part sees that holds SDA low.
+held-inside : (e level : ℕ) (s : State) → Sits s → s .device .talk .own ≡ false
+    → isEnd (seenOf level (opensOf e level s)) ≡ false
+unfolding seenOf opensOf signOf
+held-inside e level s g o =
+    low-inside (s .wire .lines .scl) (sclOf level) (s .wire .lines .sda) (lineOf level s) (s .wire .frame)
+    (low-line (sdaOf level) (s .device .talk .own) o) (g .line o)
+
+-- Marks and counter before and after: a mark comes only at the counter's place, and where one is set the page stays.
+record Stays (c : Place) (l : Load) (c′ : Place) (l′ : Load) : Type 0 where
+  mark : (i : ℕ) → getD (l .marks) i false ≡ false → getD (l′ .marks) i false ≡ true → i ≡ inPage c
+  page : marked l′ ≡ true → pageOf c′ ≡ pageOf c
+
+-- An empty load has no mark.
+empty-unmarked : (i : ℕ) → getD (emptyLoad .marks) i false ≡ false
+empty-unmarked i = go (ltb i pageSize) refl
+  where
+    go : (b : Bool) → ltb i pageSize ≡ b → getD (emptyLoad .marks) i false ≡ false
+    go true e = getD-replicate pageSize i false false (ltb-true i pageSize e)
+    go false e = List·getD-eq-default (emptyLoad .marks) false (ltb-false i pageSize e)
+
+-- So they stay where the load is dropped.
+dropped-stays : (c c′ : Place) (l : Load) → Stays c l c′ emptyLoad
+dropped-stays c c′ l =
+    record { mark = λ i a b. absurd (true≢false (sym b ∙ empty-unmarked i)); page = λ e. absurd (true≢false (sym e)) }
+
+-- A mark set at one place shows at no other.
+set-mark : (ms : List Bool) (i j : ℕ) → getD ms i false ≡ false → getD (set ms j true) i false ≡ true → i ≡ j
+set-mark ms i j a b = go (eqb i j) refl
+  where
+    go : (t : Bool) → eqb i j ≡ t → i ≡ j
+    go true e = eqb-true i j e
+    go false e = absurd (true≢false (sym b ∙ getD-set-other ms j i true false (eqb-false i j e) ∙ a))
+
+module _ (k : Kind) (d : Device) (l : Load) (x : marked l ≡ true → d .talk .phase ≡ Data) where
+  -- Where the load stays, the counter has to stay only in the phase of data.
+  load-stays : (c′ : Place) → (d .talk .phase ≡ Data → c′ ≡ d .counter) → Stays (d .counter) l c′ l
+  load-stays c′ h = record { mark = λ i a b. cc; page = λ e. ap pageOf (h (x e)) }
+
+  -- An array byte.
+  data-stays : (b : Bool) (v : ℕ) → Stays (d .counter) l (dataBy b d .counter) (keptBy b d v l)
+  data-stays true v =
+      record { mark = λ i a b. set-mark (l .marks) i (inPage (d .counter)) a b; page = λ e. page-stays (d .counter) }
+  data-stays false v = load-stays (d .counter) (λ e. refl)
+
+  -- A byte, by phase.
+  byte-stays : (p : Phase) (s v : ℕ) → d .talk .phase ≡ p
+      → Stays (d .counter) l (byteIn p k s d v .counter) (keptIn p k d v l)
+  byte-stays Idle s v e = load-stays (byteIn Idle k s d v .counter) (λ f. cc)
+  byte-stays Silent s v e = load-stays (byteIn Silent k s d v .counter) (λ f. cc)
+  byte-stays Slave s v e = load-stays (byteIn Slave k s d v .counter) (λ f. cc)
+  byte-stays High s v e = load-stays (byteIn High k s d v .counter) (λ f. cc)
+  byte-stays Low s v e = load-stays (byteIn Low k s d v .counter) (λ f. cc)
+  byte-stays Data s v e = data-stays (takenOf k d) v
+  byte-stays Register s v e = load-stays (byteIn Register k s d v .counter) (λ f. cc)
+  byte-stays Send s v e = load-stays (byteIn Send k s d v .counter) (λ f. cc)
+  byte-stays SendRegister s v e = load-stays (byteIn SendRegister k s d v .counter) (λ f. cc)
+
+-- Each sign.
+heard-stays : (sign : Sign) (wp : Bool) (array : List ℕ) (s : State)
+    → (marked (s .load) ≡ true → s .device .talk .phase ≡ Data)
+    → Stays (s .device .counter) (s .load) (heardBy sign wp array s .device .counter) (heardBy sign wp array s .load)
+unfolding startOf stopOf byteStep byteOf keptOf
+heard-stays Quiet wp array s x = load-stays (kindOf (s .part)) (s .device) (s .load) x (s .device .counter) (λ e. refl)
+heard-stays Start wp array s x = dropped-stays (s .device .counter) (startOf s .device .counter) (s .load)
+heard-stays (Stop n) wp array s x = dropped-stays (s .device .counter) (stopOf wp s .device .counter) (s .load)
+heard-stays Bit wp array s x =
+    load-stays (kindOf (s .part)) (s .device) (s .load) x (bitOf (s .device) .counter) (λ e. rw (bit-stays (s .device) (cc)))
+heard-stays (Byte v) wp array s x =
+    byte-stays (kindOf (s .part)) (s .device) (s .load) x (s .device .talk .phase) (s .select) v refl
+heard-stays (Ninth b) wp array s x =
+    load-stays (kindOf (s .part)) (s .device) (s .load) x (ninthOf (kindOf (s .part)) array b (s .device) .counter)
+    (λ e. rw (ninth-releases (kindOf (s .part)) array b (s .device) (cc)))
+
+-- Rules 3 and 4.
+goes-stays : (b : Bool) (level : ℕ) (array : List ℕ) (s : State)
+    → (marked (s .load) ≡ true → s .device .talk .phase ≡ Data)
+    → Stays (s .device .counter) (s .load) (goesOnBy b level array s .device .counter) (goesOnBy b level array s .load)
+unfolding resetOf wiredOf
+goes-stays true level array s x = dropped-stays (s .device .counter) (resetOf level s .device .counter) (s .load)
+goes-stays false level array s x = heard-stays (seenOf level s) (wpOf level) array (wiredOf level s) x
+
+-- A sample.
+step-stays : (e level : ℕ) (array : List ℕ) (s : State) → (marked (s .load) ≡ true → s .device .talk .phase ≡ Data)
+    → Stays (s .device .counter) (s .load) (stepOf e level array s .device .counter) (stepOf e level array s .load)
+unfolding stepOf opensOf
+step-stays e level array s x = goes-stays (opensOf e level s .timers .reset) level array (opensOf e level s) x
+
+-- So it is of every part that stands so.
+stands-holds : (p : Part) → Stands p → Holds p
+unfolding partStep
+stands-holds p t =
+    let g = t .sits in
+    record {
+      size = t .fit .size;
+      start = λ e level o f. true≢false (sym (ap isEnd f) ∙ held-inside e level (p .state) g o);
+      stop = λ e level n o f. true≢false (sym (ap isEnd f) ∙ held-inside e level (p .state) g o);
+      mark = λ e level i a b. step-stays e level (p .array) (p .state) (λ y. g .talks .opens y .phase) .mark i a b;
+      page = λ e level m. step-stays e level (p .array) (p .state) (λ y. g .talks .opens y .phase) .page m;
+    }
+
+-- So it is of every reachable part.
+pub reachable-holds : (p : Part) → Reachable p → Holds p
+reachable-holds p r = stands-holds p (reachable-stands p r)

@@ -1,0 +1,4 @@
+-- Laws of what every state from power-up keeps.
+pub mod Falls
+pub mod Steps
+pub mod Talks

@@ -1,0 +1,117 @@
+-- One sample keeps all that the reachable states keep beside the ranges, in one record that holds its parts together.
+-- Assumes nothing.
+use Prim.Native.Nat.{ℕ}
+use mathlib.Core.Bool.{Bool, true, false, true≢false, _&&_}
+use mathlib.Core.List.{List}
+use mathlib.Core.Path.{_≡_, refl}
+use native.Mathlib.Omega.{arith}
+use Rattle.ground.specs.Kind.{kindOf}
+use Rattle.part.specs.Timers.{writes, timedOf, suppliedOf}
+use Rattle.part.specs.declared.state.Phase.the-variants.{Idle}
+use Rattle.part.specs.declared.state.Timers.{Timers}
+use Rattle.part.specs.declared.state.Wire.{Wire}
+use Rattle.part.specs.declared.state.Device.{Device}
+use Rattle.part.specs.declared.state.Load.{Load}
+use Rattle.part.specs.declared.state.State.{State}
+use Rattle.wire.specs.Sign.{wireOf}
+use Rattle.wire.specs.declared.Sign.{Sign}
+use Rattle.wire.specs.declared.Sign.the-variants.{Quiet, Start, Stop, Bit, Byte, Ninth}
+use Rattle.device.specs.Talk.{withControl}
+use Rattle.device.specs.Bytes.{byteOf, keptOf, bitOf, ninthOf}
+use Rattle.device.specs.Ends.{startedOf, dropped, stoppedOf, endedOf}
+use Rattle.sample.specs.Level.{sclOf, sdaOf, wpOf, vccOf}
+use Rattle.sample.specs.Sample.{withWire, latchedBy, opensOf, resetOf, startOf, stopOf, byteStep, heardBy}
+use Rattle.sample.specs.Sample.{lineOf, seenOf, wiredOf, goesOnBy, stepOf}
+use Rattle.ranges.proofs.Signs.{Saw, saw}
+use Rattle.reachable.proofs.Kept.Talks.{Talks, fresh, start-talks, stop-talks}
+use Rattle.reachable.proofs.Kept.Falls.{bit-talks, byte-talks, ninth-talks}
+
+-- All that is kept beside the ranges, together.
+pub record Sits (s : State) : Type 0 where
+  pub talks : Talks (kindOf (s .part)) (s .wire .frame .bits) (s .device) (s .load)
+  pub line : s .device .talk .own ≡ false → s .wire .lines .scl ≡ true → s .wire .lines .sda ≡ false
+
+-- A fall of SCL keeps it where its device and load do.
+fallen : (s : State) (w : Wire) (d : Device) (l : Load) → w .lines .scl ≡ false
+    → Talks (kindOf (s .part)) (w .frame .bits) d l
+    → Sits (record { part = s .part; select = s .select; timers = s .timers; wire = w; device = d; load = l })
+fallen s w d l c t = record { talks = t; line = λ x y. cc }
+
+-- Each sign keeps it, on a wire as the sign says and with own SDA low seen on it.
+heard-sits : (sign : Sign) (wp : Bool) (array : List ℕ) (s : State) (w : Wire)
+    → Saw sign (s .wire .frame .bits) (w .frame .bits) (w .lines .scl)
+    → (s .device .talk .own ≡ false → w .lines .sda ≡ false) → Sits s → Sits (heardBy sign wp array (withWire s w))
+unfolding startOf startedOf stopOf stoppedOf byteStep
+heard-sits Quiet wp array s w e h g =
+    record { talks = rw e (g .talks); line = λ x y. h x }
+heard-sits Start wp array s w e h g =
+    record {
+      talks =
+          start-talks (kindOf (s .part)) (s .wire .frame .bits) (w .frame .bits) (s .device) (s .load) (g .talks)
+          (writes (s .timers));
+      line = λ x y. cc;
+    }
+heard-sits (Stop n) wp array s w e h g =
+    record {
+      talks = stop-talks (kindOf (s .part)) (s .wire .frame .bits) (w .frame .bits) (s .device) (s .load) (g .talks) wp;
+      line = λ x y. cc;
+    }
+heard-sits Bit wp array s w e h g =
+    fallen s w (bitOf (s .device)) (s .load) (e .2)
+    (bit-talks (kindOf (s .part)) (s .wire .frame .bits) (w .frame .bits) (s .device) (s .load) (g .talks) (e .1) (e .0))
+heard-sits (Byte v) wp array s w e h g =
+    fallen s w (byteOf (kindOf (s .part)) (s .select) (s .device) v) (keptOf (kindOf (s .part)) (s .device) v (s .load))
+    (e .2)
+    (byte-talks (kindOf (s .part)) (s .wire .frame .bits) (w .frame .bits) (s .device) (s .load) (g .talks) (s .select) v
+    (e .1) (e .0))
+heard-sits (Ninth b) wp array s w e h g =
+    fallen s w (ninthOf (kindOf (s .part)) array b (s .device)) (s .load) (e .1)
+    (ninth-talks (kindOf (s .part)) (s .wire .frame .bits) (w .frame .bits) (s .device) (s .load) (g .talks) b array
+    (omega arith))
+
+-- Own SDA low is low on the line.
+pub low-line : (x own : Bool) → own ≡ false → (x && own) ≡ false
+low-line true own e = e
+low-line false own e = refl
+
+-- Rule 4 keeps it.
+wired-sits : (level : ℕ) (array : List ℕ) (s : State) → Sits s
+    → Sits (heardBy (seenOf level s) (wpOf level) array (wiredOf level s))
+unfolding seenOf wiredOf wireOf
+wired-sits level array s g =
+    heard-sits (seenOf level s) (wpOf level) array s (wireOf (s .wire) (sclOf level) (lineOf level s))
+    (saw (s .wire) (sclOf level) (lineOf level s)) (low-line (sdaOf level) (s .device .talk .own)) g
+
+-- The state after rules 1 and 2, with the supply and the timers after rule 1.
+abbrev opened : Bool → Timers → State → State
+opened v t s =
+    record {
+      part = s .part;
+      select = s .select;
+      timers = suppliedOf v t;
+      wire = s .wire;
+      device = withControl (s .device) (latchedBy v (s .device .control));
+      load = s .load;
+    }
+
+-- Rules 3 and 4, by whether reset is active: with low VCC it is.
+opened-sits : (b v : Bool) (t : Timers) (level : ℕ) (array : List ℕ) (s : State) → opened v t s .timers .reset ≡ b
+    → Sits s → Sits (goesOnBy b level array (opened v t s))
+unfolding suppliedOf resetOf endedOf
+opened-sits true v t level array s e g =
+    record {
+      talks =
+          fresh (kindOf (s .part)) 0 Idle (s .device .counter) (dropped (latchedBy v (s .device .control))) refl (λ x. cc)
+          refl refl;
+      line = λ x y. cc;
+    }
+opened-sits false true t level array s e g =
+    wired-sits level array (opened true t s) (record { talks = g .talks; line = g .line })
+opened-sits false false t level array s e g = absurd (true≢false e)
+
+-- A sample keeps it.
+pub step-sits : (e level : ℕ) (array : List ℕ) (s : State) → Sits s → Sits (stepOf e level array s)
+unfolding stepOf opensOf
+step-sits e level array s g =
+    opened-sits (opensOf e level s .timers .reset) (vccOf level) (timedOf (s .device .control .stored) e (s .timers)) level
+    array s refl g

@@ -1,0 +1,3 @@
+pub mod Holds
+pub mod Kept
+pub mod Reachable

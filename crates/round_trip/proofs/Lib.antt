@@ -1,0 +1,4 @@
+pub mod Images
+pub mod Operations
+pub mod RoundTrip
+pub mod Tidied

@@ -1,0 +1,1 @@
+// No function: an image that was written reads back the same. specs/ says it, proofs/ shows it.

@@ -1,0 +1,65 @@
+-- The bench cases of captures: what a part that is powered up answers and holds after the traffic of each case. No axiom is used.
+use Prim.Native.Nat.{ℕ}
+use mathlib.Core.Path.{refl}
+use Rattle.part.specs.Numbers.{x4323, x4325}
+use Rattle.part.specs.Kind.{kindOf}
+use Rattle.part.specs.Timers.{loadedOf, timedOf, suppliedOf}
+use Rattle.part.specs.Lock.{extentOf, lockedOf}
+use Rattle.part.specs.Page.{storeOf}
+use Rattle.wire.specs.Sign.{fallSign, fallFrame, signOf, wireOf}
+use Rattle.refusals.specs.Refusals.{inRange, judgedOf}
+use Rattle.control.specs.Register.{orderOf, carriedOut}
+use Rattle.device.specs.Bytes.{slaveOf, highOf, lowOf, takenOf, byteOf, keptOf, bitOf, ninthOf}
+use Rattle.device.specs.Ends.{startedOf, stoppedOf, endedOf}
+use Rattle.sample.specs.Level.{answerOf}
+use Rattle.sample.specs.Sample.{opensOf, resetOf, startOf, stopOf, byteStep, seenOf, wiredOf, stepOf, arrayOf}
+use Rattle.sample.specs.Run.{partStep}
+use Rattle.twin.specs.Power.{poweredUp}
+use Rattle.run_cases.specs.RunCases.{P1, P5, P6, P7, P8, P9}
+
+-- Every rule is opened where this is, so that a capture can be computed.
+unfoldable opened : ℕ
+unfolding inRange judgedOf kindOf extentOf lockedOf storeOf loadedOf timedOf suppliedOf fallSign fallFrame signOf wireOf orderOf carriedOut slaveOf highOf lowOf takenOf byteOf keptOf bitOf ninthOf startedOf stoppedOf endedOf answerOf opensOf resetOf startOf stopOf byteStep seenOf wiredOf stepOf arrayOf partStep poweredUp
+opened = 0
+
+-- P1: reset.
+pub p1 : P1
+unfolding opened
+p1 = record { taken = (refl, refl); low = refl; high = refl }
+
+-- P5: page wrap.
+pub p5 : P5 x4323 × P5 x4325
+unfolding opened
+p5 = (
+  record { taken = (refl, refl); page = refl; counter = refl; next = refl; steps = refl },
+  record { taken = (refl, refl); page = refl; counter = refl; next = refl; steps = refl },
+)
+
+-- P6: slave bytes.
+pub p6 : P6 x4323 2 3 × P6 x4325 0 1
+unfolding opened
+p6 = (
+  record { taken = (refl, refl, refl, refl); writes = refl; reads = refl; select = refl; code = refl },
+  record { taken = (refl, refl, refl, refl); writes = refl; reads = refl; select = refl; code = refl },
+)
+
+-- P7: the three register steps.
+pub p7 : P7 x4323 × P7 x4325
+unfolding opened
+p7 = (
+  record { watchdog = refl; block = refl; reads = refl; taken = refl; bus = refl },
+  record { watchdog = refl; block = refl; reads = refl; taken = refl; bus = refl },
+)
+
+-- P8: a third byte that changes nothing.
+pub p8 : P8 x4323 × P8 x4325
+unfolding opened
+p8 = (
+  record { taken = refl; before = refl; same = refl; time = refl; array = refl },
+  record { taken = refl; before = refl; same = refl; time = refl; array = refl },
+)
+
+-- P9: write time.
+pub p9 : P9 x4323 7 3 × P9 x4325 5 1
+unfolding opened
+p9 = (record { taken = refl; last = refl }, record { taken = refl; last = refl })

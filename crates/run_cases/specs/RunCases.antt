@@ -1,0 +1,132 @@
+-- The bench cases of captures (document 01, Bench cases, P1 and P5 to P9). They are said of a part that has just been powered up, with
+-- select 0, stored byte 00h and an array all FFh, WP low throughout: what it answers and holds after traffic that a replay accepts.
+use Prim.Native.Nat.{ℕ, _-_, _%_}
+use mathlib.Core.Bool.{true, false}
+use mathlib.Core.List.{List, [], _∷_, _++_}
+use mathlib.Core.Path.{_≡_}
+use lib.ListN.{length, drop, replicate}
+use Rattle.part.specs.Numbers.{x4323, x4325, writeTime, registerAddress}
+use Rattle.part.specs.Kind.{kindOf}
+use Rattle.part.specs.Lock.{blockCode}
+use Rattle.part.specs.Timers.{watchCode}
+use Rattle.part.specs.Page.{at}
+use Rattle.part.specs.declared.state.Control.{Control}
+use Rattle.refusals.specs.Refusals.{accepted, judgedOf}
+use Rattle.control.specs.Register.{readsOf}
+use Rattle.twin.specs.Power.{poweredUp}
+use Rattle.sample.specs.Run.{Part, runOf, answersOf}
+use Rattle.waves.specs.Waves.{Capture, joined, wait, start, sent, awake, written, ordered, readAt}
+
+-- A part at power-up, with select 0, stored byte 00h and an array all FFh (State and time, power-up).
+abbrev pub fresh : ℕ → Part
+fresh part = record { state = poweredUp part 0 0; array = replicate (kindOf part .size) 0xFF }
+
+-- Such a part after moves (State and time, each sample).
+abbrev pub partOf : ℕ → List Capture → Part
+partOf part ms = runOf (joined ms .times) (joined ms .levels) (fresh part)
+
+-- Its answers, a byte for each sample (What goes in and what comes out).
+abbrev pub answers : ℕ → List Capture → List ℕ
+answers part ms = answersOf (joined ms .times) (joined ms .levels) (fresh part)
+
+-- The replay of such moves is accepted, with as many samples as there are (Refusal numbers, 4 to 10).
+abbrev pub Accepted : ℕ → List Capture → Type 0
+Accepted part ms =
+    judgedOf
+    (fresh part .state)
+    (joined ms .times)
+    (joined ms .levels)
+    (fresh part .array)
+    (replicate (length (joined ms .levels)) 0)
+    ≡ accepted (length (joined ms .levels))
+
+-- Four samples of good VCC: the first, then 100,000 + 99,999, then 1 (State and time, 1 and 2).
+abbrev pub heldReset : List Capture
+heldReset = wait 100000 ∷ wait 100000 ∷ wait 99999 ∷ wait 1 ∷ []
+
+-- After the first good-VCC sample 100,000 + 99,999 keeps reset, and 1 more ends it: the bit of the RESET pin (Bench cases, P1).
+pub record P1 : Type 0 where
+  pub taken : Accepted x4323 heldReset × Accepted x4325 heldReset
+  pub low : answers x4323 heldReset ≡ 1 ∷ 1 ∷ 1 ∷ 3 ∷ []
+  pub high : answers x4325 heldReset ≡ 3 ∷ 3 ∷ 3 ∷ 1 ∷ []
+
+-- The last so many answers of a row.
+abbrev pub lastAnswers : ℕ → List ℕ → List ℕ
+lastAnswers n row = drop (length row - n) row
+
+-- Twelve bytes from an address on, with WEL set before (Bytes on the wire, array data).
+abbrev pub twelve : ℕ → List Capture
+twelve address = awake ++ ordered 2 ++ written address (1 ∷ 2 ∷ 3 ∷ 4 ∷ 5 ∷ 6 ∷ 7 ∷ 8 ∷ 9 ∷ 10 ∷ 11 ∷ 12 ∷ [])
+
+-- A page that they fill from its place 60 on, the last four of it first (Bench cases, P5).
+abbrev pub wrapped : List ℕ
+wrapped = (5 ∷ 6 ∷ 7 ∷ 8 ∷ 9 ∷ 10 ∷ 11 ∷ 12 ∷ []) ++ replicate 52 0xFF ++ (1 ∷ 2 ∷ 3 ∷ 4 ∷ [])
+
+-- They fill 60 to 63 and 0 to 7, and the counter is at 8; in the next page it is the same (Bench cases, P5).
+pub record P5 (part : ℕ) : Type 0 where
+  pub taken : Accepted part (twelve 0x03C) × Accepted part (twelve 0x07C)
+  pub page : partOf part (twelve 0x03C) .array ≡ wrapped ++ replicate 4032 0xFF
+  pub counter : partOf part (twelve 0x03C) .state .device .counter ≡ at 8
+  pub next : partOf part (twelve 0x07C) .array ≡ replicate 64 0xFF ++ wrapped ++ replicate 3968 0xFF
+  pub steps : partOf part (twelve 0x07C) .state .device .counter ≡ at 0x048
+
+-- A start and a slave byte (Bytes on the wire, after a start).
+abbrev pub calls : ℕ → List Capture
+calls v = awake ++ (start ∷ sent v ∷ [])
+
+-- The last four answers to it: from its eighth fall to its ninth, which ends the acknowledge; after A1h the first bit of FFh is out.
+abbrev pub toSlave : ℕ → ℕ → List ℕ
+toSlave part v = lastAnswers 4 (answers part (calls v))
+
+-- Select 0 answers A0h and A1h, not A2h or A8h: `low` is the answer byte with SDA low, `high` with SDA high (Bench cases, P6).
+pub record P6 (part low high : ℕ) : Type 0 where
+  pub taken : Accepted part (calls 0xA0) × Accepted part (calls 0xA1) × Accepted part (calls 0xA2) × Accepted part (calls 0xA8)
+  pub writes : toSlave part 0xA0 ≡ low ∷ low ∷ low ∷ high ∷ []
+  pub reads : toSlave part 0xA1 ≡ low ∷ low ∷ low ∷ high ∷ []
+  pub select : toSlave part 0xA2 ≡ high ∷ high ∷ high ∷ high ∷ []
+  pub code : toSlave part 0xA8 ≡ high ∷ high ∷ high ∷ high ∷ []
+
+-- Three register bytes, each with its start and stop (Control register).
+abbrev pub three : ℕ → ℕ → ℕ → List Capture
+three u v w = awake ++ ordered u ++ ordered v ++ ordered w
+
+-- The register chosen and read once the write time is over; the last 30 answers are its byte, the ninth clock and the stop's (Bytes on the wire).
+abbrev pub readsRegister : List Capture
+readsRegister = wait writeTime ∷ readAt registerAddress
+
+-- The SDA bit of each answer in the middle of three, where SCL is high.
+abbrev pub clockedBits : List ℕ → List ℕ
+clockedBits (a ∷ b ∷ c ∷ row) = b % 2 ∷ clockedBits row
+clockedBits [] = []
+clockedBits (a ∷ []) = []
+clockedBits (a ∷ b ∷ []) = []
+
+-- 02h, 06h, 63h gives WD 11 and BP 100; the register then reads 63h, on the bus too (Bench cases, P7).
+pub record P7 (part : ℕ) : Type 0 where
+  pub watchdog : watchCode (partOf part (three 0x02 0x06 0x63) .state .device .control .stored) ≡ 3
+  pub block : blockCode (partOf part (three 0x02 0x06 0x63) .state .device .control .stored) ≡ 4
+  pub reads : readsOf (partOf part (three 0x02 0x06 0x63) .state .device .control) ≡ 0x63
+  pub taken : Accepted part (three 0x02 0x06 0x63 ++ readsRegister)
+  pub bus : clockedBits (lastAnswers 30 (answers part (three 0x02 0x06 0x63 ++ readsRegister)))
+      ≡ 0 ∷ 1 ∷ 1 ∷ 0 ∷ 0 ∷ 0 ∷ 1 ∷ 1 ∷ 1 ∷ 1 ∷ []
+
+-- The control register with both latches set, nothing stored, nothing pending (Control register).
+abbrev pub latched : Control
+latched = record { stored = 0; wel = true; rwel = true; chosen = false; pending = false; value = 0 }
+
+-- 67h as third byte changes nothing: as after 02h and 06h, RWEL stays, and no write time runs (Bench cases, P8).
+pub record P8 (part : ℕ) : Type 0 where
+  pub taken : Accepted part (three 0x02 0x06 0x67)
+  pub before : partOf part (awake ++ ordered 0x02 ++ ordered 0x06) .state .device .control ≡ latched
+  pub same : partOf part (three 0x02 0x06 0x67) .state .device .control ≡ latched
+  pub time : partOf part (three 0x02 0x06 0x67) .state .timers .write ≡ 0
+  pub array : partOf part (three 0x02 0x06 0x67) .array ≡ replicate (kindOf part .size) 0xFF
+
+-- A byte written, then 4,999 and 1 more (Bytes on the wire, stop).
+abbrev pub written5000 : List Capture
+written5000 = awake ++ ordered 2 ++ written 0 (1 ∷ []) ++ (wait 4999 ∷ wait 1 ∷ [])
+
+-- The write time ends at 5,000, not at 4,999: `writing` is the answer byte while it runs, `done` after it (Bench cases, P9).
+pub record P9 (part writing done : ℕ) : Type 0 where
+  pub taken : Accepted part written5000
+  pub last : lastAnswers 3 (answers part written5000) ≡ writing ∷ writing ∷ done ∷ []

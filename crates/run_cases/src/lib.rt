@@ -1,0 +1,1 @@
+// No function: the bench cases of captures, each computed. specs/ says it, proofs/ shows it.
