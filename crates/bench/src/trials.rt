@@ -49,7 +49,10 @@ pub fn run(
             let last = rounds::replays(header.times, state, elapsed, levels, array, answers);
             Tried { ran: true, last }
         }
-        Reply::Refused { number: _, place: _ } => Tried {
+        Reply::Refused {
+            number: _,
+            place: _,
+        } => Tried {
             ran: false,
             last: up,
         },

@@ -1,8 +1,8 @@
 -- There is only one possible reply: for each public operation and every input, two outcomes that both keep what the
 -- operation promises are one and the same, in every part. It rests on the promises alone. No axiom is used.
 use mathlib.Core.Path.{_≡_, refl, sym}
-use Rattle.refusals.specs.Refusals.{meant}
-use Rattle.refusals.proofs.Laws.{apart}
+use Rattle.ground.specs.Verdict.{meant}
+use Rattle.ground.proofs.Verdicts.{apart}
 use Rattle.twin.specs.Power.{sizeMeant}
 use Rattle.twin.specs.declared.replays.Replayed.{Replayed}
 use Rattle.twin.specs.declared.power.Size.{Size}

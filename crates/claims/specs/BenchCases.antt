@@ -1,7 +1,7 @@
 -- The bench cases in one list (document 01, Bench cases): those of captures, said of a part that has just been powered up; those of the
 -- lock, said of every kind of part; those of images.
-use Rattle.part.specs.Numbers.{x4323, x4325}
-use Rattle.part.specs.declared.kinds.Kind.{Kind}
+use Rattle.ground.specs.Numbers.{x4323, x4325}
+use Rattle.ground.specs.declared.kinds.Kind.{Kind}
 use Rattle.run_cases.specs.RunCases.{P1, P5, P6, P7, P8, P9}
 use Rattle.lock_cases.specs.LockCases.{P2, P3, P4}
 use Rattle.image_cases.specs.ImageCases.{P10, P11}

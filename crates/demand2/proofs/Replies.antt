@@ -1,9 +1,9 @@
 -- A law of the reply and its meaning. Assumes nothing.
 use mathlib.Core.Path.{_≡_, sym}
-use Rattle.refusals.specs.Refusals.{meant}
-use Rattle.refusals.specs.declared.Reply.{Reply}
-use Rattle.refusals.specs.declared.Reply.the-variants.{Accepted, Refused}
-use Rattle.refusals.proofs.Laws.{apart}
+use Rattle.ground.specs.Verdict.{meant}
+use Rattle.ground.specs.declared.Reply.{Reply}
+use Rattle.ground.specs.declared.Reply.the-variants.{Accepted, Refused}
+use Rattle.ground.proofs.Verdicts.{apart}
 
 -- Two replies that mean the same are the same.
 pub meant-one : (r q : Reply) → meant r ≡ meant q → r ≡ q

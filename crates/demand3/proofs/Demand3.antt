@@ -16,8 +16,7 @@ use Rattle.sample.specs.Level.{answerOf}
 use Rattle.sample.specs.Sample.{stepOf, arrayOf}
 use Rattle.sample.specs.Run.{Part, partStep, runOf, answersOf}
 use Rattle.demand3.specs.Sending.{Sent, nothing, sentOf}
-use Rattle.demand3.specs.Differ.{never, sample, reaches, firstReach, firstDiff, fetches, covers, firstCover}
-use Rattle.demand3.specs.Differ.{EqualBut, FullLoad, sentAfter, SplitAt, Alike, Covered, Demand3}
+use Rattle.demand3.specs.Differ.{never, sample, reaches, firstReach, firstDiff, fetches, covers, firstCover, EqualBut, FullLoad, sentAfter, SplitAt, Alike, Covered, Demand3}
 use Rattle.demand3.proofs.Sent.TwoArrays.{arrays-kept, arrays-equal, array-silent, whole-kept}
 use Rattle.demand3.proofs.Sent.OneSample.{partOf, Beside, equal}
 use Rattle.demand3.proofs.Sent.Reached.{beside-answers, beside-line, beside-silenced, beside-equal, beside-step}

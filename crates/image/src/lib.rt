@@ -4,6 +4,6 @@ mod reading;
 mod records;
 mod writing;
 
-pub use reading::read_image;
 pub use ground::Reply;
+pub use reading::read_image;
 pub use writing::write_image;

@@ -2,10 +2,10 @@
 use crate::forms;
 use crate::records;
 use crate::records::Says;
+use ground::Reply;
 use hexfile::cells;
 use hexfile::lines;
 use hexfile::lines::Line;
-use ground::Reply;
 ghost use mathlib.Core.Path.{_≡_};
 ghost use Prim.Native.Nat.{_≤_};
 ghost use lib.ListN.{length};
@@ -28,7 +28,10 @@ fn read_lines(text: &[u8], room: &mut [u8], cells: &mut [u16]) -> Reply
     loop {
         let line = lines::next_line(text, at);
         let Line::At(trimmed, feed) = line else {
-            return Reply::Refused(17, text.len());
+            return Reply::Refused {
+                number: 17,
+                place: text.len(),
+            };
         };
         let says = records::hear(&text[at..], trimmed - at, room, cells);
         let next = feed + 1;
@@ -38,7 +41,10 @@ fn read_lines(text: &[u8], room: &mut [u8], cells: &mut [u16]) -> Reply
             }
             Says::Ends => {
                 if next < text.len() {
-                    return Reply::Refused { number: 18, place: next };
+                    return Reply::Refused {
+                        number: 18,
+                        place: next,
+                    };
                 }
                 return Reply::Accepted(text.len());
             }
@@ -69,10 +75,16 @@ pub fn read_image(text: &[u8], array: &mut [u8]) -> Reply
     ensures { λ r. ⌜ ReadsImage (now (text .entry)) (now (array .entry)) r (now (array .exit)) ⌝ }
 {
     if array.len() != forms::image_size() {
-        return Reply::Refused { number: 5, place: 0 };
+        return Reply::Refused {
+            number: 5,
+            place: 0,
+        };
     }
     if text.len() > MOST_TEXT {
-        return Reply::Refused { number: 11, place: 0 };
+        return Reply::Refused {
+            number: 11,
+            place: 0,
+        };
     }
     let mut cells = [cells::NOT_GIVEN; CELLS];
     read_into(text, &mut cells, array)

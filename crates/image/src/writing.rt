@@ -1,10 +1,10 @@
 // Writing an image in its fixed form.
 use crate::forms;
+use ground::Reply;
 use hexfile::lines;
 use hexfile::pairs;
 use hexfile::rows;
 use hexfile::sums;
-use ground::Reply;
 ghost use mathlib.Core.Path.{_≡_};
 ghost use Prim.Native.Nat.{_+_, _-_, _%_, _≤_, _<_};
 ghost use lib.ListN.{length};
@@ -133,10 +133,16 @@ pub fn write_image(array: &[u8], out: &mut [u8]) -> Reply
     ensures { λ r. ⌜ WritesImage (now (array .entry)) (now (out .entry)) r (now (out .exit)) ⌝ }
 {
     if array.len() != forms::image_size() {
-        return Reply::Refused { number: 5, place: 0 };
+        return Reply::Refused {
+            number: 5,
+            place: 0,
+        };
     }
     if out.len() < ROW_LENGTH * (array.len() / forms::ROW) + END_LENGTH {
-        return Reply::Refused { number: 19, place: 0 };
+        return Reply::Refused {
+            number: 19,
+            place: 0,
+        };
     }
     Reply::Accepted(put_rows(array, out))
 }

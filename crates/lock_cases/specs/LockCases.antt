@@ -4,7 +4,7 @@ use mathlib.Core.Bool.{Bool, true, false}
 use mathlib.Core.Path.{_≡_}
 use Rattle.part.specs.Lock.{blockCode, lockedOf}
 use Rattle.part.specs.Page.{at}
-use Rattle.part.specs.declared.kinds.Kind.{Kind}
+use Rattle.ground.specs.declared.kinds.Kind.{Kind}
 use Rattle.part.specs.declared.state.Phase.the-variants.{Data}
 use Rattle.part.specs.declared.state.Device.{Device}
 use Rattle.device.specs.Bytes.{byteOf}

@@ -1,9 +1,9 @@
 // The page load, the places it fills, and its way into the array.
-use ground::kinds::Kind;
 use crate::state::BusAddress;
 use crate::state::Load;
 use crate::state::PAGE;
 use crate::state::Place;
+use ground::kinds::Kind;
 ghost use mathlib.Core.Path.{_≡_};
 ghost use mathlib.Core.Bool.{Bool, cond};
 ghost use lib.ListN.{getD, set};

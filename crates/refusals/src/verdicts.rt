@@ -1,6 +1,6 @@
 // Refusals 1 to 3 of a power-up, and 4 to 10 of a replay.
-use ground::Reply;
 use crate::ranges;
+use ground::Reply;
 use ground::kinds;
 use part::state::State;
 ghost use mathlib.Core.Path.{_≡_};
@@ -22,15 +22,24 @@ pub fn power(part: u16, select: u8, stored: u8) -> Reply
 {
     let kind = kinds::kind_of(part);
     if kind.size == 0 {
-        return Reply::Refused { number: 1, place: 0 };
+        return Reply::Refused {
+            number: 1,
+            place: 0,
+        };
     }
     if select > ranges::MOST_SELECT {
-        return Reply::Refused { number: 2, place: 0 };
+        return Reply::Refused {
+            number: 2,
+            place: 0,
+        };
     }
     if ranges::is_storable(stored) {
         return Reply::Accepted(0);
     }
-    Reply::Refused { number: 3, place: 0 }
+    Reply::Refused {
+        number: 3,
+        place: 0,
+    }
 }
 
 // The earliest faulty sample of two rows of one length, or acceptance with that length.
@@ -41,10 +50,16 @@ fn faults(elapsed: &[u32], levels: &[u8]) -> Reply
     let mut i = 0;
     while i < levels.len() {
         if elapsed[i] > MOST_ELAPSED {
-            return Reply::Refused { number: 9, place: i };
+            return Reply::Refused {
+                number: 9,
+                place: i,
+            };
         }
         if levels[i] > MOST_LEVEL {
-            return Reply::Refused { number: 10, place: i };
+            return Reply::Refused {
+                number: 10,
+                place: i,
+            };
         }
         i += 1;
     }
@@ -117,18 +132,33 @@ pub fn judge(s: State, elapsed: &[u32], levels: &[u8], array: &[u8], answers: &[
     let kind = kinds::kind_of(s.part);
     if ranges::in_range(s) {
         if array.len() != kind.size as usize {
-            return Reply::Refused { number: 5, place: 0 };
+            return Reply::Refused {
+                number: 5,
+                place: 0,
+            };
         }
         if elapsed.len() != levels.len() {
-            return Reply::Refused { number: 6, place: 0 };
+            return Reply::Refused {
+                number: 6,
+                place: 0,
+            };
         }
         if levels.len() > MOST_SAMPLES {
-            return Reply::Refused { number: 7, place: 0 };
+            return Reply::Refused {
+                number: 7,
+                place: 0,
+            };
         }
         if answers.len() != levels.len() {
-            return Reply::Refused { number: 8, place: 0 };
+            return Reply::Refused {
+                number: 8,
+                place: 0,
+            };
         }
         return samples(elapsed, levels);
     }
-    Reply::Refused { number: 4, place: 0 }
+    Reply::Refused {
+        number: 4,
+        place: 0,
+    }
 }

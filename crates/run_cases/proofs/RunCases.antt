@@ -1,8 +1,8 @@
 -- The bench cases of captures: what a part that is powered up answers and holds after the traffic of each case. No axiom is used.
 use Prim.Native.Nat.{ℕ}
 use mathlib.Core.Path.{refl}
-use Rattle.part.specs.Numbers.{x4323, x4325}
-use Rattle.part.specs.Kind.{kindOf}
+use Rattle.ground.specs.Numbers.{x4323, x4325}
+use Rattle.ground.specs.Kind.{kindOf}
 use Rattle.part.specs.Timers.{loadedOf, timedOf, suppliedOf}
 use Rattle.part.specs.Lock.{extentOf, lockedOf}
 use Rattle.part.specs.Page.{storeOf}

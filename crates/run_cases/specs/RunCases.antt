@@ -5,13 +5,14 @@ use mathlib.Core.Bool.{true, false}
 use mathlib.Core.List.{List, [], _∷_, _++_}
 use mathlib.Core.Path.{_≡_}
 use lib.ListN.{length, drop, replicate}
-use Rattle.part.specs.Numbers.{x4323, x4325, writeTime, registerAddress}
-use Rattle.part.specs.Kind.{kindOf}
+use Rattle.ground.specs.Numbers.{x4323, x4325, writeTime, registerAddress}
+use Rattle.ground.specs.Kind.{kindOf}
 use Rattle.part.specs.Lock.{blockCode}
 use Rattle.part.specs.Timers.{watchCode}
 use Rattle.part.specs.Page.{at}
 use Rattle.part.specs.declared.state.Control.{Control}
-use Rattle.refusals.specs.Refusals.{accepted, judgedOf}
+use Rattle.ground.specs.Verdict.{accepted}
+use Rattle.refusals.specs.Refusals.{judgedOf}
 use Rattle.control.specs.Register.{readsOf}
 use Rattle.twin.specs.Power.{poweredUp}
 use Rattle.sample.specs.Run.{Part, runOf, answersOf}

@@ -4,10 +4,10 @@
 mod power;
 mod replays;
 
+pub use ground::Reply;
 pub use power::Size;
 pub use power::power_up;
 pub use power::register;
 pub use power::size_of;
-pub use ground::Reply;
 pub use replays::Replayed;
 pub use replays::replay;

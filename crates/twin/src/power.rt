@@ -1,5 +1,6 @@
 // Power-up, and what a caller asks of a part beside replaying it.
 use crate::replays::Replayed;
+use ground::Reply;
 use ground::kinds;
 use part::page;
 use part::state::Control;
@@ -13,7 +14,6 @@ use part::state::Timers;
 use part::state::Watchdog;
 use part::state::Wire;
 use part::timers;
-use ground::Reply;
 use refusals::verdicts;
 ghost use mathlib.Core.Path.{_≡_};
 ghost use Rattle.twin.specs.Power.{poweredUp};
@@ -79,7 +79,10 @@ pub fn power_up(part: u16, select: u8, stored: u8) -> Replayed
             reply,
             state: powered_up(part, select, stored),
         },
-        Reply::Refused { number: _, place: _ } => Replayed {
+        Reply::Refused {
+            number: _,
+            place: _,
+        } => Replayed {
             reply,
             state: powered_up(kinds::X4323, 0, 0),
         },

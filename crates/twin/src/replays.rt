@@ -1,6 +1,6 @@
 // Replay: refusals first, then sample by sample.
-use part::state::State;
 use ground::Reply;
+use part::state::State;
 use refusals::verdicts;
 use sample::answers;
 use sample::steps;
@@ -52,6 +52,9 @@ pub fn replay(
             let next = run(state, elapsed, levels, array, answers);
             Replayed { reply, state: next }
         }
-        Reply::Refused { number: _, place: _ } => Replayed { reply, state },
+        Reply::Refused {
+            number: _,
+            place: _,
+        } => Replayed { reply, state },
     }
 }

@@ -27,8 +27,7 @@ use Rattle.device.specs.Ends.{startedOf, stoppedOf, endedOf}
 use Rattle.sample.specs.Level.{sclOf, wpOf}
 use Rattle.sample.specs.Sample.{withDevice, opensOf, resetOf, startOf, stopOf, byteStep, heardBy, lineOf, seenOf, wiredOf, goesOnBy, stepOf}
 use Rattle.sample.specs.Run.{Part}
-use Rattle.demand3.specs.Sending.{Sent, nothing, sends, sendsArray, fetchedBy, nextSent, sentBy, heardSent, sentOf}
-use Rattle.demand3.specs.Sending.{bitFrom}
+use Rattle.demand3.specs.Sending.{Sent, nothing, sends, sendsArray, fetchedBy, nextSent, sentBy, heardSent, sentOf, bitFrom}
 use Rattle.demand3.specs.Differ.{elsewhere, EqualBut}
 use Rattle.demand3.proofs.Sent.SentBits.{shifted, bit-out}
 

@@ -5,8 +5,8 @@ use mathlib.Core.Path.{_≡_, ap, _∙_}
 use native.Mathlib.Nat.{zero-add, suc-add}
 use native.Mathlib.Omega.{arith}
 use lib.Dec.{eqb}
-use Rattle.part.specs.Numbers.{byteValues}
-use Rattle.part.specs.Cases.{highest}
+use Rattle.ground.specs.Numbers.{byteValues}
+use Rattle.ground.specs.Cases.{highest}
 use Rattle.demand3.specs.Sending.{bitFrom}
 
 -- What is left of a byte after so many falls.

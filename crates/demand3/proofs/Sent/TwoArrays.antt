@@ -25,8 +25,7 @@ use Rattle.wire.specs.declared.Sign.{Sign}
 use Rattle.wire.specs.declared.Sign.the-variants.{Quiet, Start, Stop, Bit, Byte, Ninth}
 use Rattle.device.specs.Bytes.{takenOf, keptBy, keptIn, keptOf}
 use Rattle.sample.specs.Level.{wpOf}
-use Rattle.sample.specs.Sample.{opensOf, resetOf, startOf, stopOf, byteStep, heardBy, savedBy, writtenBy, seenOf, wiredOf}
-use Rattle.sample.specs.Sample.{goesOnBy, stepOf, keepsBy, arrayOf}
+use Rattle.sample.specs.Sample.{opensOf, resetOf, startOf, stopOf, byteStep, heardBy, savedBy, writtenBy, seenOf, wiredOf, goesOnBy, stepOf, keepsBy, arrayOf}
 use Rattle.demand3.specs.Differ.{coversBy, covers, EqualBut, FullLoad, silenced}
 
 -- A mark that is set is one of the marks.

@@ -23,11 +23,9 @@ use Rattle.ground.proofs.Tests.{and-split}
 use Rattle.part.proofs.Places.{page-stays, lock-of-page}
 use Rattle.control.specs.Register.{readsOf}
 use Rattle.device.specs.Talk.{withTalk, withChosen, acknowledged, rested, sending, released, addressOf, matches}
-use Rattle.device.specs.Bytes.{slaveBy, slaveOf, highOf, addressBy, lowOf, takenOf, dataBy, registerBy, byteIn, byteOf}
-use Rattle.device.specs.Bytes.{keptBy, keptIn, keptOf, bitIn, bitOf, answeredBy, ninthIn, ninthOf}
+use Rattle.device.specs.Bytes.{slaveBy, slaveOf, highOf, addressBy, lowOf, takenOf, dataBy, registerBy, byteIn, byteOf, keptBy, keptIn, keptOf, bitIn, bitOf, answeredBy, ninthIn, ninthOf}
 use Rattle.reachable.specs.Reachable.{waits, speaks}
-use Rattle.reachable.proofs.Kept.Talks.{Voice, rests, answers, sends, Pends, Talks}
-use Rattle.reachable.proofs.Kept.Talks.{still, voice-stays, voice-released, whole-filled}
+use Rattle.reachable.proofs.Kept.Talks.{Voice, rests, answers, sends, Pends, Talks, still, voice-stays, voice-released, whole-filled}
 
 -- The two phases that take data, for the array or for the register.
 abbrev takes : Phase → Bool

@@ -20,8 +20,7 @@ use Rattle.device.specs.Talk.{withControl}
 use Rattle.device.specs.Bytes.{byteOf, keptOf, bitOf, ninthOf}
 use Rattle.device.specs.Ends.{startedOf, dropped, stoppedOf, endedOf}
 use Rattle.sample.specs.Level.{sclOf, sdaOf, wpOf, vccOf}
-use Rattle.sample.specs.Sample.{withWire, latchedBy, opensOf, resetOf, startOf, stopOf, byteStep, heardBy}
-use Rattle.sample.specs.Sample.{lineOf, seenOf, wiredOf, goesOnBy, stepOf}
+use Rattle.sample.specs.Sample.{withWire, latchedBy, opensOf, resetOf, startOf, stopOf, byteStep, heardBy, lineOf, seenOf, wiredOf, goesOnBy, stepOf}
 use Rattle.ranges.proofs.Signs.{Saw, saw}
 use Rattle.reachable.proofs.Kept.Talks.{Talks, fresh, start-talks, stop-talks}
 use Rattle.reachable.proofs.Kept.Falls.{bit-talks, byte-talks, ninth-talks}

@@ -8,7 +8,7 @@ use lib.ListN.{getD, take, drop, take-append-drop}
 use borrow.Author.Tests.{ltb-true, eqb-false, not-true}
 use Rattle.ground.specs.Numbers.{byteValues}
 use Rattle.hexfile.specs.Lines.{carriageReturn}
-use Rattle.part.proofs.Laws.{both-split}
+use Rattle.ground.proofs.Tests.{and-split}
 use Rattle.round_trip.specs.RoundTrip.{all, allBytes, noReturn}
 
 -- Three tests hold together however they are bracketed.

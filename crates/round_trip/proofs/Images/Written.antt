@@ -20,9 +20,7 @@ use Rattle.image.proofs.Laid.{length-rows, length-image, length-most}
 use Rattle.round_trip.specs.RoundTrip.{Rows, noReturn, endsInFeed, rowRecord, fixedLines, fixedForm, Takes}
 use Rattle.round_trip.proofs.Images.Tests.{bytes-parts, returns-append}
 use Rattle.round_trip.proofs.Images.Texts.{ends-append}
-use Rattle.round_trip.proofs.Images.Records.{lineOf, recordBytes, Writable, record-fields}
-use Rattle.round_trip.proofs.Images.Records.{record-first, record-returns, record-trimmed, record-read, record-gives}
-use Rattle.round_trip.proofs.Images.Records.{end-writable, end-line, end-feed, record-ends}
+use Rattle.round_trip.proofs.Images.Records.{lineOf, recordBytes, Writable, record-fields, record-first, record-returns, record-trimmed, record-read, record-gives, end-writable, end-line, end-feed, record-ends}
 use Rattle.round_trip.proofs.Images.Cells.{settled-same, settled-blank, given-at}
 
 -- The first row of rows is 16 bytes long.

@@ -4,7 +4,7 @@ use Rattle.transfers.proofs.number.Statement.{statement}
 use Rattle.transfers.proofs.number.Tie as tie
 use Rattle.transfers.proofs.number.Reads as reads
 use Rattle.transfers.proofs.number.Lts as lts
-use Rattle.part.proofs.cases.worth.Reads as worth-reads
+use Rattle.ground.proofs.cases.worth.Reads as worth-reads
 use Rattle.transfers.proofs.packed.Reads as packed-reads
 use Rattle.transfers.proofs.role.Reads as role-reads
 

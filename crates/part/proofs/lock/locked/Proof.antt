@@ -1,5 +1,4 @@
 -- `part::lock::locked` meets its contract.
-use borrow.Author.Tests.{le-leb, lt-leb}
 use Rattle.part.specs.Lock.{lockedOf}
 use borrow.Author.Needs.{needs}
 use Rattle.part.proofs.lock.locked.Statement.{statement}
@@ -13,13 +12,7 @@ extent-of-requires c κs = search needs
 
 returns : tie.Need-returns
 unfolding lockedOf
-returns c =
-    rw (← c .before .before .before .before .before .block-code .ensures, ← c .before .before .before .before .extent-of .ensures, le-leb _ _ (c .before .if1 .taken))
-
-returns-2 : tie.Need-returns-2
-unfolding lockedOf
-returns-2 c =
-    rw (← c .before .before .before .before .block-code .ensures, ← c .before .before .before .extent-of .ensures, lt-leb _ _ (c .if1 .left))
+returns c = rw (← c .before .before .before .before .block-code .ensures, ← c .before .before .before .extent-of .ensures)
 
 pub locked-spec : {M : Type 1} → statement M
-locked-spec = tie.close (tie.spec block-code-requires extent-of-requires returns returns-2)
+locked-spec = tie.close (tie.spec block-code-requires extent-of-requires returns)

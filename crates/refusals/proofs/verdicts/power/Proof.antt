@@ -7,7 +7,7 @@ use Rattle.refusals.proofs.verdicts.power.Statement.{statement}
 use Rattle.refusals.proofs.verdicts.power.Tie as tie
 use Rattle.refusals.proofs.verdicts.power.Reads as reads
 use Rattle.refusals.proofs.verdicts.power.Lts as lts
-use Rattle.part.proofs.kinds.kind_of.Reads as kind-of-reads
+use Rattle.ground.proofs.kinds.kind_of.Reads as kind-of-reads
 use Rattle.refusals.proofs.ranges.is_storable.Reads as is-storable-reads
 
 -- src/verdicts.rt:20:9
