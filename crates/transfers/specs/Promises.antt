@@ -1,12 +1,12 @@
--- What the functions promise of the list of transfers and of the row that it is laid over.
-use Prim.Native.Nat.{ℕ, _+_, _≤_}
+-- What is promised of the list of transfers and of the row that it is laid over.
+use Prim.Native.Nat.{ℕ}
 use mathlib.Core.List.{List}
 use mathlib.Core.Path.{_≡_}
 use lib.ListN.{length}
 use Rattle.part.specs.declared.state.State.{State}
+use Rattle.entries.specs.Entries.{laidFrom}
 use Rattle.sample.specs.Run.{runOf}
-use Rattle.transfers.specs.Transfers.{placedAt, entriesOf, laidFrom}
-use Rattle.transfers.specs.declared.Entry.{Entry}
+use Rattle.transfers.specs.Transfers.{entriesOf}
 use Rattle.transfers.specs.declared.Listed.{Listed}
 
 -- The list of a capture from a state and an array: how many entries it has, those that have room in the row, and the part after it.
@@ -15,9 +15,3 @@ pub record Lists (s : State) (es ls array row : List ℕ) (r : Listed) (array′
   pub said : row′ ≡ laidFrom 0 (entriesOf 0 es ls (record { state = s; array = array })) row
   pub state : r .state ≡ runOf es ls (record { state = s; array = array }) .state
   pub kept : array′ ≡ runOf es ls (record { state = s; array = array }) .array
-
--- Between inner functions: entries of one sample laid over a row from a place on, at most so many, and where they end.
-pub record Says (most place : ℕ) (xs : List Entry) (at : ℕ) (row : List ℕ) (r : ℕ) (row′ : List ℕ) : Type 0 where
-  pub laid : row′ ≡ laidFrom at (placedAt place xs) row
-  pub next : r ≡ at + length xs
-  pub few : length xs ≤ most

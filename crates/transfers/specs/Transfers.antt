@@ -1,41 +1,19 @@
 -- A capture as the list of what went over the bus, entry by entry (document 01, State and time; Bytes on the wire).
-use Prim.Native.Nat.{ℕ, _+_, _*_, _%_}
+use Prim.Native.Nat.{ℕ, _+_}
 use mathlib.Core.Bool.{Bool, true, false}
-use mathlib.Core.List.{List, [], _∷_, _++_, map}
-use lib.Seq.{sets}
-use Rattle.ground.specs.Cases.{orZero}
+use mathlib.Core.List.{List, [], _∷_, _++_}
 use Rattle.part.specs.Timers.{writes, writeFell}
-use Rattle.part.specs.declared.state.Phase.{Phase}
-use Rattle.part.specs.declared.state.Phase.the-variants.{Idle, Silent, Slave, High, Low, Data, Register, Send, SendRegister}
 use Rattle.part.specs.declared.state.State.{State}
-use Rattle.wire.specs.declared.Sign.{Sign}
-use Rattle.wire.specs.declared.Sign.the-variants as sign
+use Rattle.entries.specs.Entries.{saidBy, edgeBy, Placed, placedAt}
+use Rattle.entries.specs.declared.Entry.{Entry}
+use Rattle.entries.specs.declared.Entry.the-variants.{CycleBegins, CycleEnds, ResetBegins, ResetEnds}
 use Rattle.sample.specs.Sample.{seenOf}
 use Rattle.sample.specs.Run.{Part, partStep}
-use Rattle.transfers.specs.declared.Entry.{Entry}
-use Rattle.transfers.specs.declared.Entry.the-variants.{Start, Stop, Byte, Ninth, CycleBegins, CycleEnds, ResetBegins, ResetEnds}
-
--- What a sign says, by the phase that a byte met, the part's own SDA level at a ninth bit, and the bits committed before a start
--- (State and time, 4; Bytes on the wire, acknowledged from the eighth fall to the ninth).
-abbrev pub saidBy : Sign → Phase → Bool → ℕ → List Entry
-saidBy sign.Quiet p own bits = []
-saidBy sign.Start p own bits = Start bits ∷ []
-saidBy (sign.Stop n) p own bits = Stop n ∷ []
-saidBy sign.Bit p own bits = []
-saidBy (sign.Byte v) p own bits = Byte p v ∷ []
-saidBy (sign.Ninth b) p own bits = Ninth b own ∷ []
 
 -- While reset is active no sign is heard, else that of the sample, met by the state before it (State and time, 3 and 4).
 abbrev pub heardIn : Bool → ℕ → State → List Entry
 heardIn true level s = []
 heardIn false level s = saidBy (seenOf level s) (s .device .talk .phase) (s .device .talk .own) (s .wire .frame .bits)
-
--- What is said where something began or ended, by whether it was and is (State and time, 1 and 2; Bytes on the wire, stop).
-abbrev pub edgeBy : Bool → Bool → Entry → Entry → List Entry
-edgeBy true true begins ends = []
-edgeBy true false begins ends = ends ∷ []
-edgeBy false true begins ends = begins ∷ []
-edgeBy false false begins ends = []
 
 -- One sample between two states: what time and supply did, then the sign, then a write cycle begun (State and time, 1 to 4).
 unfoldable pub sampleSays : ℕ → ℕ → State → State → List Entry
@@ -45,64 +23,9 @@ sampleSays e level s next =
     ++ (heardIn (next .timers .reset) level s
     ++ edgeBy (writes (writeFell e (s .timers))) (writes (next .timers)) CycleBegins CycleEnds))
 
--- An entry with the place of its sample (Refusal numbers, place: sample).
-pub record Placed : Type 0 where
-  pub place : ℕ
-  pub entry : Entry
-
--- The entries of one sample at its place.
-abbrev pub placedAt : ℕ → List Entry → List Placed
-placedAt place xs = map (λ (x : Entry). record { place = place; entry = x }) xs
-
 -- The whole list, first sample first, places counted from the given one (What goes in and what comes out).
 abbrev pub entriesOf : ℕ → List ℕ → List ℕ → Part → List Placed
 entriesOf place [] ls p = []
 entriesOf place (e ∷ es) [] p = []
 entriesOf place (e ∷ es) (l ∷ ls) p =
     placedAt place (sampleSays e l (p .state) (partStep e l p .state)) ++ entriesOf (place + 1) es ls (partStep e l p)
-
--- The role of a byte by the phase that it met; idle and silent hear none (Bytes on the wire).
-abbrev pub roleOf : Phase → ℕ
-roleOf Slave = 2
-roleOf High = 3
-roleOf Low = 4
-roleOf Data = 5
-roleOf Register = 6
-roleOf Send = 7
-roleOf SendRegister = 8
-roleOf Idle = 9
-roleOf Silent = 9
-
--- What each entry is, as a number below 16.
-abbrev pub tagOf : Entry → ℕ
-tagOf (Start n) = 0
-tagOf (Stop n) = 1
-tagOf (Byte p v) = roleOf p
-tagOf (Ninth b own) = 10
-tagOf CycleBegins = 11
-tagOf CycleEnds = 12
-tagOf ResetBegins = 13
-tagOf ResetEnds = 14
-
--- What an entry holds beside that: the bits cut off, the byte, the ninth bit on the line and the part's own level (1 and 2).
-abbrev pub valueOf : Entry → ℕ
-valueOf (Start n) = n
-valueOf (Stop n) = n
-valueOf (Byte p v) = v
-valueOf (Ninth b own) = orZero b 1 + orZero own 2
-valueOf CycleBegins = 0
-valueOf CycleEnds = 0
-valueOf ResetBegins = 0
-valueOf ResetEnds = 0
-
--- Place, tag and value as one number; an accepted capture's places are far below the bound (Refusal numbers, 7).
-abbrev pub packedOf : ℕ → ℕ → ℕ → ℕ
-packedOf place tag value = place % 1048576 * 4096 + tag * 256 + value
-
--- An entry and its place as one number.
-unfoldable pub numberOf : Placed → ℕ
-numberOf x = packedOf (x .place) (tagOf (x .entry)) (valueOf (x .entry))
-
--- A list's numbers laid over a row from a place on, as far as it has room.
-abbrev pub laidFrom : ℕ → List Placed → List ℕ → List ℕ
-laidFrom at xs row = sets row at (map numberOf xs)

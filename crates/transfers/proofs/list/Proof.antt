@@ -8,8 +8,9 @@ use borrow.Author.Needs.{needs, scaled-fits}
 use lib.ListN.{length, drop, getD}
 use Rattle.sample.specs.Run.{Part, partStep, runOf}
 use Rattle.sample.proofs.Runs.{run-turn, stepped}
-use Rattle.transfers.specs.Transfers.{entriesOf, laidFrom}
-use Rattle.transfers.proofs.Laid.{row-turn, count-turn, list-done}
+use Rattle.entries.specs.Entries.{laidFrom}
+use Rattle.transfers.specs.Transfers.{entriesOf}
+use Rattle.transfers.proofs.Listing.{row-turn, count-turn, list-done}
 use Rattle.transfers.proofs.list.Statement.{statement}
 use Rattle.transfers.proofs.list.Tie as tie
 

@@ -1,6 +1,6 @@
 -- `transfers::put_heard` meets its contract: the sign is that of the state before and the sample's levels.
 use Rattle.sample.specs.Sample.{seenOf}
-use Rattle.transfers.proofs.Laid.{says-none}
+use Rattle.entries.proofs.Laid.{says-none}
 use borrow.Author.Needs.{needs}
 use Rattle.transfers.proofs.put_heard.Statement.{statement}
 use Rattle.transfers.proofs.put_heard.Tie as tie

@@ -1,6 +1,7 @@
 -- `transfers::put_sample` meets its contract: four pieces, one after the other.
 use Rattle.transfers.specs.Transfers.{sampleSays}
-use Rattle.transfers.proofs.Laid.{says-both, goes-on}
+use Rattle.entries.proofs.Laid.{says-both}
+use Rattle.transfers.proofs.Listing.{goes-on}
 use borrow.Author.Needs.{needs}
 use Rattle.transfers.proofs.put_sample.Statement.{statement}
 use Rattle.transfers.proofs.put_sample.Tie as tie

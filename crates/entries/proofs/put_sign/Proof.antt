@@ -1,8 +1,8 @@
--- `transfers::put_sign` meets its contract.
-use Rattle.transfers.proofs.Laid.{says-none}
+-- `entries::put_sign` meets its contract.
+use Rattle.entries.proofs.Laid.{says-none}
 use borrow.Author.Needs.{needs}
-use Rattle.transfers.proofs.put_sign.Statement.{statement}
-use Rattle.transfers.proofs.put_sign.Tie as tie
+use Rattle.entries.proofs.put_sign.Statement.{statement}
+use Rattle.entries.proofs.put_sign.Tie as tie
 
 enum-told : tie.Need-enum-told
 enum-told c = search needs

@@ -1,8 +1,8 @@
--- `transfers::put` meets its contract, with room for the entry and without.
-use Rattle.transfers.proofs.Laid.{says-inside, says-outside}
+-- `entries::put` meets its contract, with room for the entry and without.
+use Rattle.entries.proofs.Laid.{says-inside, says-outside}
 use borrow.Author.Needs.{needs}
-use Rattle.transfers.proofs.put.Statement.{statement}
-use Rattle.transfers.proofs.put.Tie as tie
+use Rattle.entries.proofs.put.Statement.{statement}
+use Rattle.entries.proofs.put.Tie as tie
 
 number-requires : tie.Need-number-requires
 number-requires c κs = search needs

@@ -1,8 +1,8 @@
--- `transfers::put_edge` meets its contract.
-use Rattle.transfers.proofs.Laid.{says-none}
+-- `entries::put_edge` meets its contract.
+use Rattle.entries.proofs.Laid.{says-none}
 use borrow.Author.Needs.{needs}
-use Rattle.transfers.proofs.put_edge.Statement.{statement}
-use Rattle.transfers.proofs.put_edge.Tie as tie
+use Rattle.entries.proofs.put_edge.Statement.{statement}
+use Rattle.entries.proofs.put_edge.Tie as tie
 
 returns : tie.Need-returns
 returns c = rw (c .before .if1 .taken, c .if2 .taken) (says-none _ _ _)

@@ -1,130 +1,103 @@
-use Rattle.transfers.specs.Transfers.{numberOf}
+-- `entries::number` meets its contract: an entry of each kind is packed with its tag and value.
+use Rattle.entries.specs.Entries.{numberOf}
 use borrow.Author.Needs.{needs}
-use Rattle.transfers.proofs.number.Statement.{statement}
-use Rattle.transfers.proofs.number.Tie as tie
-use Rattle.transfers.proofs.number.Reads as reads
-use Rattle.transfers.proofs.number.Lts as lts
-use Rattle.ground.proofs.cases.worth.Reads as worth-reads
-use Rattle.transfers.proofs.packed.Reads as packed-reads
-use Rattle.transfers.proofs.role.Reads as role-reads
+use Rattle.entries.proofs.number.Statement.{statement}
+use Rattle.entries.proofs.number.Tie as tie
+use Rattle.entries.proofs.number.Reads as reads
+use Rattle.entries.proofs.number.Lts as lts
+use Rattle.part.proofs.cases.worth.Reads as worth-reads
+use Rattle.entries.proofs.packed.Reads as packed-reads
+use Rattle.entries.proofs.role.Reads as role-reads
 
--- src/lib.rt:69:22
 enum-known-entry : tie.Need-enum-known-entry
 enum-known-entry c = search needs
 
--- src/lib.rt:69:31
 packed-requires : tie.Need-packed-requires
 packed-requires c κs = search needs
 
--- src/lib.rt:70:21
 enum-known-entry-2 : tie.Need-enum-known-entry-2
 enum-known-entry-2 c = search needs
 
--- src/lib.rt:70:30
 packed-requires-2 : tie.Need-packed-requires-2
 packed-requires-2 c κs = search needs
 
--- src/lib.rt:71:21
 enum-known-entry-3 : tie.Need-enum-known-entry-3
 enum-known-entry-3 c = search needs
 
--- src/lib.rt:71:52
 role-requires : tie.Need-role-requires
 role-requires c κs = search needs
 
--- src/lib.rt:71:38
 packed-requires-3 : tie.Need-packed-requires-3
 packed-requires-3 c κs = search needs
 
--- src/lib.rt:72:22
 enum-known-entry-4 : tie.Need-enum-known-entry-4
 enum-known-entry-4 c = search needs
 
--- src/lib.rt:72:54
 worth-requires : tie.Need-worth-requires
 worth-requires c κs = search needs
 
--- src/lib.rt:72:78
 worth-requires-2 : tie.Need-worth-requires-2
 worth-requires-2 c κs = search needs
 
--- src/lib.rt:72:54
 add-packed : tie.Need-add-packed
 add-packed c = search needs
 
--- src/lib.rt:72:36
 packed-requires-4 : tie.Need-packed-requires-4
 packed-requires-4 c κs = search needs
 
--- src/lib.rt:73:31
 enum-told : tie.Need-enum-told
 enum-told c = search needs
 
--- src/lib.rt:73:31
 packed-requires-5 : tie.Need-packed-requires-5
 packed-requires-5 c κs = search needs
 
--- src/lib.rt:74:29
 enum-told-2 : tie.Need-enum-told-2
 enum-told-2 c = search needs
 
--- src/lib.rt:74:29
 packed-requires-6 : tie.Need-packed-requires-6
 packed-requires-6 c κs = search needs
 
--- src/lib.rt:75:31
 enum-told-3 : tie.Need-enum-told-3
 enum-told-3 c = search needs
 
--- src/lib.rt:75:31
 packed-requires-7 : tie.Need-packed-requires-7
 packed-requires-7 c κs = search needs
 
--- src/lib.rt:76:29
 enum-told-4 : tie.Need-enum-told-4
 enum-told-4 c = search needs
 
--- src/lib.rt:76:29
 packed-requires-8 : tie.Need-packed-requires-8
 packed-requires-8 c κs = search needs
 
--- src/lib.rt:65:1
 returns : tie.Need-returns
 unfolding numberOf
 returns c = rw (c .packed .ensures, c .before .before .entry .given .1)
 
--- src/lib.rt:65:1
 returns-2 : tie.Need-returns-2
 unfolding numberOf
 returns-2 c = rw (c .packed2 .ensures, c .before .before .entry2 .given .1)
 
--- src/lib.rt:65:1
 returns-3 : tie.Need-returns-3
 unfolding numberOf
 returns-3 c = rw (c .packed3 .ensures, c .before .role .ensures .0, c .before .before .before .entry3 .given .1)
 
--- src/lib.rt:65:1
 returns-4 : tie.Need-returns-4
 unfolding numberOf
 returns-4 c =
     rw (c .packed4 .ensures, c .before .worth2 .ensures .0, c .before .before .worth .ensures .0, c .before .before .before .before .entry4 .given .1)
 
--- src/lib.rt:65:1
 returns-5 : tie.Need-returns-5
 unfolding numberOf
 returns-5 c = rw (c .packed5 .ensures, c .before .enum-told .given .1)
 
--- src/lib.rt:65:1
 returns-6 : tie.Need-returns-6
 unfolding numberOf
 returns-6 c = rw (c .packed6 .ensures, c .before .enum-told2 .given .1)
 
--- src/lib.rt:65:1
 returns-7 : tie.Need-returns-7
 unfolding numberOf
 returns-7 c = rw (c .packed7 .ensures, c .before .enum-told3 .given .1)
 
--- src/lib.rt:65:1
 returns-8 : tie.Need-returns-8
 unfolding numberOf
 returns-8 c = rw (c .packed8 .ensures, c .before .enum-told4 .given .1)
