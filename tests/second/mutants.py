@@ -27,13 +27,15 @@ LONGEST = 1800  # seconds for one run, in case a fault makes a program go on for
 
 HEAD = """# Faults planted in the second simulator
 
-A comparison that finds nothing says something only if it would find a fault. So one rule of document 01 at a time was bent in a copy of
-the second simulator, and `tests/run`, with its usual seeds, compared that copy with the proved programs. Here is what it found and
-where: the first case (or image text) to which the replies differ. `python3 tests/second/mutants.py > docs/FAULTS.md` makes this page.
+A comparison that finds nothing says something only if it would find a fault. So one rule of
+document 01 at a time was bent in a copy of the second simulator, and `tests/run`, with its usual
+seeds, compared that copy with the proved programs. The table says where it found each fault: at the
+first case (or image text) to which the replies differ. This page is what
+`python3 tests/second/mutants.py > docs/FAULTS.md` makes.
 
-The copy as it is, no fault planted: {sound}.
-Faults planted: {planted}. Found: {found}. Not found: {missed}. Ended in trouble, not in a difference: {trouble}.
-Not planted, as their text is gone or they don't build: {unplanted}.
+Of the copy as it is, with no fault planted, the run says: {sound}.
+Faults were planted one at a time, {planted} in all: {found} were found, {missed} were not, and {trouble} ended in trouble
+and not in a difference. Another {unplanted} could not be planted, as their text is gone or they do not build.
 
 | Rule | Fault | Found at |
 |---|---|---|"""
