@@ -5,7 +5,7 @@ use mathlib.Core.Path.{_≡_, refl, sym, ap, _∙_}
 use native.Mathlib.Omega.{arith}
 use lib.ListN.{length, set, length-append, length-map}
 use lib.Seq.{sets, set-out}
-use Rattle.part.proofs.Rows.{sets-append}
+use Rattle.ground.proofs.Rows.{sets-append}
 use Rattle.entries.specs.Entries.{Placed, placedAt, numberOf, laidFrom, Says}
 use Rattle.entries.specs.declared.Entry.{Entry}
 

@@ -2,7 +2,7 @@
 // far as it has room.
 pub mod tags;
 
-use part::cases;
+use ground::cases;
 use part::state::Phase;
 use wire::Sign;
 ghost use mathlib.Core.Path.{_≡_};

@@ -1,4 +1,4 @@
-"""Bus traffic for tests/sigrok: a host that gives samples, and what the rules say of every byte it sends or reads."""
+"""Bus traffic for `shown` and `sigrok`: a host that gives samples, and what the rules say of every byte it sends or reads."""
 SIZE, PAGE, WRITE_TIME = 4096, 64, 5000
 REGISTER = 0xFFFF
 

@@ -1,4 +1,4 @@
-"""Faults in the reader and the writer of images, in the form of faults_chip.py."""
+"""Faults in the reader and the writer of images."""
 
 IMAGE = "src/image.rs"
 

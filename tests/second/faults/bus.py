@@ -1,4 +1,4 @@
-"""Faults on the bus and in the control register, in the form of faults_chip.py."""
+"""Faults on the bus and in the control register."""
 
 CHIP, WIRE, REG = "src/chip.rs", "src/wire.rs", "src/register.rs"
 

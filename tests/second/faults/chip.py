@@ -1,5 +1,4 @@
-"""Faults in power-up, time, supply, answers and refusals: rule, fault in words, file, text to replace (its first place), text put
-there."""
+"""Faults in power-up, time, supply, answers and refusals."""
 
 CHIP, MAIN = "src/chip.rs", "src/main.rs"
 
