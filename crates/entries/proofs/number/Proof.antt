@@ -5,7 +5,7 @@ use Rattle.entries.proofs.number.Statement.{statement}
 use Rattle.entries.proofs.number.Tie as tie
 use Rattle.entries.proofs.number.Reads as reads
 use Rattle.entries.proofs.number.Lts as lts
-use Rattle.part.proofs.cases.worth.Reads as worth-reads
+use Rattle.ground.proofs.cases.worth.Reads as worth-reads
 use Rattle.entries.proofs.packed.Reads as packed-reads
 use Rattle.entries.proofs.role.Reads as role-reads
 
