@@ -3,6 +3,7 @@ use Prim.Native.Nat.{ℕ, _+_, _*_, _/_, _%_}
 use mathlib.Core.Bool.{Bool, true, false, _&&_, _||_}
 use lib.Dec.{eqb}
 use Rattle.ground.specs.Cases.{orZero, odd, highest, middle}
+use Rattle.part.specs.State.{withStored, withWel, withRwel}
 use Rattle.part.specs.declared.state.Control.{Control}
 use Rattle.control.specs.declared.Order.{Order}
 use Rattle.control.specs.declared.Order.the-variants.{SetWel, ClearWel, SetRwel, Take, Nothing}
@@ -50,10 +51,10 @@ orderOf wp c = orderBy (c .pending) (c .rwel) wp c
 
 -- The latches and stored bits after each order (Control register).
 unfoldable pub carriedOut : Order → Control → Control
-carriedOut SetWel c = record { stored = c .stored; wel = true; rwel = c .rwel; chosen = c .chosen; pending = c .pending; value = c .value }
-carriedOut ClearWel c = record { stored = c .stored; wel = false; rwel = c .rwel; chosen = c .chosen; pending = c .pending; value = c .value }
-carriedOut SetRwel c = record { stored = c .stored; wel = c .wel; rwel = true; chosen = c .chosen; pending = c .pending; value = c .value }
-carriedOut Take c = record { stored = plainOf (c .value); wel = c .wel; rwel = false; chosen = c .chosen; pending = c .pending; value = c .value }
+carriedOut SetWel c = withWel c true
+carriedOut ClearWel c = withWel c false
+carriedOut SetRwel c = withRwel c true
+carriedOut Take c = withRwel (withStored c (plainOf (c .value))) false
 carriedOut Nothing c = c
 
 -- Whether an order is a nonvolatile write, which takes the write time (Control register, RWEL high).

@@ -97,11 +97,10 @@ pub fn carry_out(order: Order, c: Control) -> Control
     }
 }
 
-// Whether a stop's order takes the write time.
-pub fn commits(wp: bool, c: Control) -> bool
-    ensures { λ r. ⌜ r ≡ takesTime (orderOf wp c) ⌝ }
+// Whether an order takes the write time.
+pub fn takes_time(order: Order) -> bool
+    ensures { λ r. ⌜ r ≡ takesTime order ⌝ }
 {
-    let order = order_of(wp, c);
     match order {
         Order::Take => true,
         Order::SetWel => false,

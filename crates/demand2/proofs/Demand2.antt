@@ -134,13 +134,13 @@ passed true true true true true v n h =
 module _ (s : State) (es ls array row : List ℕ) (n : ℕ) (j : judgedOf s es ls array row ≡ accepted n) where
   -- So says the verdict.
   judged-passed :
-      Passed (inRange s) (eqb (length array) (kindOf (s .part) .size)) (leb (length ls) mostSamples)
+      Passed (inRange s) (eqb (length array) (kindOf (s .chip .part) .size)) (leb (length ls) mostSamples)
       (samplesOf 0 es ls (accepted (length ls))) n
   unfolding judgedOf
   judged-passed =
       passed
       (inRange s)
-      (eqb (length array) (kindOf (s .part) .size))
+      (eqb (length array) (kindOf (s .chip .part) .size))
       (eqb (length es) (length ls))
       (leb (length ls) mostSamples)
       (eqb (length row) (length ls))
@@ -227,7 +227,7 @@ fit-judged : (p : Part) (es ls row : List ℕ) → Fit p → length es ≡ lengt
 unfolding judgedOf
 fit-judged p es ls row g e m a h =
     let same = eq-eqb (length ls) (length ls) refl in
-    let sized = eq-eqb (length (p .array)) (kindOf (p .state .part) .size) (g .size) in
+    let sized = eq-eqb (length (p .array)) (kindOf (p .state .chip .part) .size) (g .size) in
     rw (g .range, sized, e, same, le-leb (length ls) mostSamples m, a, same, h)
 
 module _ (es₁ ls₁ es₂ ls₂ : List ℕ) (p : Part) (row row₁ row₂ : List ℕ) (n : ℕ) (e : length es₁ ≡ length ls₁)
@@ -247,7 +247,7 @@ module _ (es₁ ls₁ es₂ ls₂ : List ℕ) (p : Part) (row row₁ row₂ : Li
       let g : Fit p =
       record {
         range = x .state-good;
-        size = eqb-true (length (p .array)) (kindOf (p .state .part) .size) (x .array-good);
+        size = eqb-true (length (p .array)) (kindOf (p .state .chip .part) .size) (x .array-good);
       }
       in (
         fit-judged p es₁ ls₁ row₁ g e (omega arith) a

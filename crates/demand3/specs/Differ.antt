@@ -116,8 +116,8 @@ pub record FullLoad (s : State) : Type 0 where
 abbrev pub silenced : State → State
 silenced s =
     record {
-      part = s .part;
-      select = s .select;
+      part = s .chip .part;
+      select = s .chip .select;
       timers = s .timers;
       wire = s .wire;
       device =

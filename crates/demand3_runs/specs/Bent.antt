@@ -15,9 +15,9 @@ use Rattle.part.specs.declared.state.Place.{Place}
 use Rattle.part.specs.declared.state.State.{State}
 use Rattle.part.specs.declared.state.Talk.{Talk}
 use Rattle.wire.specs.Sign.{pushed}
-use Rattle.device.specs.Talk.{withTalk, withControl, sending}
+use Rattle.part.specs.State.{withControl, withDevice, withTalk}
+use Rattle.device.specs.Talk.{sending}
 use Rattle.sample.specs.Level.{answerOf}
-use Rattle.sample.specs.Sample.{withDevice}
 use Rattle.sample.specs.Run.{Part, partStep}
 use Rattle.demand3.specs.Sending.{Sent, nothing, sends, sendsArray, sentOf}
 use Rattle.demand3.specs.Differ.{When, never, sample, firstReach, firstDiff, firstCover}
@@ -84,7 +84,7 @@ lowestFirst e l p = turned (sentOf e l p nothing) (partStep e l p)
 
 -- The place that the byte being sent came from: the one before the counter (Bytes on the wire, read).
 abbrev pub comesFrom : State → Place
-comesFrom s = at ((s .device .counter .0 + (kindOf (s .part) .size - 1)) % kindOf (s .part) .size)
+comesFrom s = at ((s .device .counter .0 + (kindOf (s .chip .part) .size - 1)) % kindOf (s .chip .part) .size)
 
 -- The byte being sent, taken from the array as it is now, less the bits that are committed.
 abbrev pub reread : State → List ℕ → ℕ
@@ -130,8 +130,8 @@ withLoad p l =
     record {
       state =
           record {
-            part = p .state .part;
-            select = p .state .select;
+            part = p .state .chip .part;
+            select = p .state .chip .select;
             timers = p .state .timers;
             wire = p .state .wire;
             device = p .state .device;

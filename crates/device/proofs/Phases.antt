@@ -1,6 +1,6 @@
 -- What a byte, a bit and a ninth bit do in each phase. Assumes nothing.
 use Prim.Native.Nat.{ℕ}
-use mathlib.Core.Bool.{Bool, true, false}
+use mathlib.Core.Bool.{Bool, true, false, _&&_}
 use mathlib.Core.List.{List}
 use mathlib.Core.Path.{_≡_, refl, ap, sym}
 use native.Mathlib.Omega.{arith}
@@ -9,8 +9,9 @@ use Rattle.part.specs.declared.state.Phase.{Phase}
 use Rattle.part.specs.declared.state.Phase.the-variants.{Idle, Silent, Slave, High, Low, Data, Register, Send, SendRegister}
 use Rattle.part.specs.declared.state.Device.{Device}
 use Rattle.part.specs.declared.state.Load.{Load}
-use Rattle.device.specs.Talk.{withTalk, released, rested}
-use Rattle.device.specs.Bytes.{slaveOf, highOf, lowOf, takenOf, dataBy, registerBy, registerSent, byteIn, byteOf, keptBy, keptIn, keptOf, nextBit, bitIn, bitOf, fetchRegister, answeredBy, ninthIn, ninthOf}
+use Rattle.part.specs.State.{withTalk}
+use Rattle.device.specs.Talk.{released, rested}
+use Rattle.device.specs.Bytes.{slaveOf, highOf, lowOf, takenOf, dataBy, registerBy, registerSent, byteIn, byteOf, keptBy, expectsData, keptOf, nextBit, bitIn, bitOf, fetchRegister, answeredBy, ninthIn, ninthOf}
 
 -- The five phases in which a byte is heard.
 abbrev pub hears : Phase → Bool
@@ -94,7 +95,7 @@ unfolding ninthOf
 ninth-releases k array b d h = ninth-heard (d .talk .phase) k array b d h
 
 -- The load by phase, outside array data.
-kept-none : (p : Phase) (k : Kind) (d : Device) (v : ℕ) (l : Load) → (p ≡ Data → ⊥) → keptIn p k d v l ≡ l
+kept-none : (p : Phase) (k : Kind) (d : Device) (v : ℕ) (l : Load) → (p ≡ Data → ⊥) → keptBy (expectsData p && takenOf k d) d v l ≡ l
 kept-none Idle k d v l h = refl
 kept-none Silent k d v l h = refl
 kept-none Slave k d v l h = refl
@@ -113,7 +114,7 @@ kept-stays k d v l h = kept-none (d .talk .phase) k d v l h
 -- Array data fills it if it is taken.
 pub kept-data : (k : Kind) (d : Device) (v : ℕ) (l : Load) → d .talk .phase ≡ Data → keptOf k d v l ≡ keptBy (takenOf k d) d v l
 unfolding keptOf
-kept-data k d v l e = ap (λ (p : Phase). keptIn p k d v l) e
+kept-data k d v l e = ap (λ (p : Phase). keptBy (expectsData p && takenOf k d) d v l) e
 
 module _ (k : Kind) (array : List ℕ) (b : Bool) (d : Device) where
   -- An idle part does nothing at a ninth fall.
@@ -181,3 +182,27 @@ module _ (k : Kind) (s : ℕ) (d : Device) (v : ℕ) where
   pub byte-send-register : d .talk .phase ≡ SendRegister → byteOf k s d v ≡ registerSent d
   unfolding byteOf
   byte-send-register e = ap (λ (p : Phase). byteIn p k s d v) e
+
+-- A byte by phase, where array data is expected.
+data-in : (p : Phase) (k : Kind) (select : ℕ) (d : Device) (v : ℕ) → expectsData p ≡ true → byteIn p k select d v ≡ dataBy (takenOf k d) d
+data-in Idle k select d v h = absurd (apart (sym h))
+data-in Silent k select d v h = absurd (apart (sym h))
+data-in Slave k select d v h = absurd (apart (sym h))
+data-in High k select d v h = absurd (apart (sym h))
+data-in Low k select d v h = absurd (apart (sym h))
+data-in Data k select d v h = refl
+data-in Register k select d v h = absurd (apart (sym h))
+data-in Send k select d v h = absurd (apart (sym h))
+data-in SendRegister k select d v h = absurd (apart (sym h))
+
+-- Where array data is expected, a byte is that.
+pub byte-is-data : (k : Kind) (select : ℕ) (d : Device) (v : ℕ) → expectsData (d .talk .phase) ≡ true
+    → byteOf k select d v ≡ dataBy (takenOf k d) d
+unfolding byteOf
+byte-is-data k select d v h = data-in (d .talk .phase) k select d v h
+
+-- There it goes into the load if it is taken; elsewhere no byte does.
+pub kept-by : (k : Kind) (d : Device) (v : ℕ) (l : Load) (b : Bool) → expectsData (d .talk .phase) ≡ b
+    → keptOf k d v l ≡ keptBy (b && takenOf k d) d v l
+unfolding keptOf
+kept-by k d v l b h = ap (λ (x : Bool). keptBy (x && takenOf k d) d v l) h

@@ -14,7 +14,8 @@ use Rattle.part.specs.declared.state.Phase.the-variants.{Idle, Silent, Slave, H
 use Rattle.part.specs.declared.state.Device.{Device}
 use Rattle.part.specs.declared.state.Load.{Load}
 use Rattle.control.specs.Register.{readsOf}
-use Rattle.device.specs.Talk.{withTalk, withChosen, pends, nonePends, acknowledged, rested, released, sending, addressOf, matches}
+use Rattle.part.specs.State.{withTalk, withCounter, withControl, withChosen}
+use Rattle.device.specs.Talk.{pends, nonePends, acknowledged, rested, released, sending, addressOf, matches}
 
 -- A slave byte by cases: a match, a read, the register chosen; no match is silence (Bytes on the wire, after a start).
 abbrev pub slaveBy : Bool → Bool → Bool → Device → Device
@@ -33,8 +34,8 @@ highOf d v = withTalk d (record { phase = Low; high = v; out = 0; own = false })
 
 -- A whole address: FFFFh chooses the register, any other sets the counter and drops the choice (Bytes on the wire, write).
 abbrev pub addressBy : Bool → Kind → Device → BusAddress → Device
-addressBy true k d a = record { talk = acknowledged Register; counter = d .counter; control = withChosen (d .control) true }
-addressBy false k d a = record { talk = acknowledged Data; counter = placeOf k a; control = withChosen (d .control) false }
+addressBy true k d a = withControl (withTalk d (acknowledged Register)) (withChosen (d .control) true)
+addressBy false k d a = withControl (withCounter (withTalk d (acknowledged Data)) (placeOf k a)) (withChosen (d .control) false)
 
 -- The address's low byte, acknowledged (Bytes on the wire, write).
 unfoldable pub lowOf : Kind → Device → ℕ → Device
@@ -46,17 +47,17 @@ takenOf k d = d .control .wel && not (lockedOf k (d .control .stored) (d .counte
 
 -- An array byte: taken, it is acknowledged and the counter steps; not taken, silence, RWEL staying (Bytes on the wire).
 abbrev pub dataBy : Bool → Device → Device
-dataBy true d = record { talk = acknowledged Data; counter = nextInPage (d .counter); control = d .control }
+dataBy true d = withCounter (withTalk d (acknowledged Data)) (nextInPage (d .counter))
 dataBy false d = withTalk d (rested Silent)
 
 -- A register byte: the first is acknowledged and pends, a second cancels it and silences the part (Control register).
 abbrev pub registerBy : Bool → Device → ℕ → Device
-registerBy false d v = record { talk = acknowledged Register; counter = d .counter; control = pends (d .control) v }
-registerBy true d v = record { talk = rested Silent; counter = d .counter; control = nonePends (d .control) }
+registerBy false d v = withControl (withTalk d (acknowledged Register)) (pends (d .control) v)
+registerBy true d v = withControl (withTalk d (rested Silent)) (nonePends (d .control))
 
 -- The register has been sent: the choice is dropped and the part is silent (Bytes on the wire, read).
 abbrev pub registerSent : Device → Device
-registerSent d = record { talk = rested Silent; counter = d .counter; control = withChosen (d .control) false }
+registerSent d = withControl (withTalk d (rested Silent)) (withChosen (d .control) false)
 
 -- The eighth fall of a byte, by phase (Bytes on the wire: what a byte does before a stop, it does at its eighth fall).
 abbrev pub byteIn : Phase → Kind → ℕ → Device → ℕ → Device
@@ -79,21 +80,21 @@ abbrev pub keptBy : Bool → Device → ℕ → Load → Load
 keptBy true d v l = filledOf l (d .counter) v
 keptBy false d v l = l
 
--- The load after a byte, by phase: only array data fills it (Bytes on the wire, array data).
-abbrev pub keptIn : Phase → Kind → Device → ℕ → Load → Load
-keptIn Idle k d v l = l
-keptIn Silent k d v l = l
-keptIn Slave k d v l = l
-keptIn High k d v l = l
-keptIn Low k d v l = l
-keptIn Data k d v l = keptBy (takenOf k d) d v l
-keptIn Register k d v l = l
-keptIn Send k d v l = l
-keptIn SendRegister k d v l = l
+-- The phase in which a byte is array data (Bytes on the wire, array data).
+abbrev pub expectsData : Phase → Bool
+expectsData Idle = false
+expectsData Silent = false
+expectsData Slave = false
+expectsData High = false
+expectsData Low = false
+expectsData Data = true
+expectsData Register = false
+expectsData Send = false
+expectsData SendRegister = false
 
--- The page load after a byte's eighth fall (Bytes on the wire, array data).
+-- The page load after a byte's eighth fall: only array data that is taken fills it (Bytes on the wire, array data).
 unfoldable pub keptOf : Kind → Device → ℕ → Load → Load
-keptOf k d v l = keptIn (d .talk .phase) k d v l
+keptOf k d v l = keptBy (expectsData (d .talk .phase) && takenOf k d) d v l
 
 -- The next bit of a byte being sent goes out, in a phase that sends (Bytes on the wire, read: one bit per fall).
 abbrev pub nextBit : Phase → Device → Device
@@ -117,7 +118,7 @@ bitOf d = bitIn (d .talk .phase) d
 
 -- The array byte at the counter is fetched, the counter steps, the highest bit goes out (Bytes on the wire, read).
 abbrev pub fetch : Kind → List ℕ → Device → Device
-fetch k array d = record { talk = sending Send (byteAt array (d .counter)); counter = nextInArray k (d .counter); control = d .control }
+fetch k array d = withCounter (withTalk d (sending Send (byteAt array (d .counter)))) (nextInArray k (d .counter))
 
 -- The register as it reads is taken and its highest bit goes out, the counter staying (Bytes on the wire, read).
 abbrev pub fetchRegister : Device → Device

@@ -4,31 +4,20 @@ use mathlib.Core.Bool.{Bool, true, false, _&&_}
 use lib.Dec.{eqb}
 use Rattle.ground.specs.Numbers.{byteValues, slaveCode}
 use Rattle.ground.specs.Cases.{highest, middle}
+use Rattle.part.specs.State.{withOwn, withPending}
 use Rattle.part.specs.declared.state.Phase.{Phase}
 use Rattle.part.specs.declared.state.BusAddress.{BusAddress}
 use Rattle.part.specs.declared.state.Talk.{Talk}
 use Rattle.part.specs.declared.state.Control.{Control}
 use Rattle.part.specs.declared.state.Device.{Device}
 
--- The device with another talk.
-abbrev pub withTalk : Device → Talk → Device
-withTalk d t = record { talk = t; counter = d .counter; control = d .control }
-
--- The device with another control register.
-abbrev pub withControl : Device → Control → Device
-withControl d c = record { talk = d .talk; counter = d .counter; control = c }
-
--- The register chosen, or not (Bytes on the wire, write and read).
-abbrev pub withChosen : Control → Bool → Control
-withChosen c b = record { stored = c .stored; wel = c .wel; rwel = c .rwel; chosen = b; pending = c .pending; value = c .value }
-
 -- A register byte pends (Control register, the first register byte).
 abbrev pub pends : Control → ℕ → Control
-pends c v = record { stored = c .stored; wel = c .wel; rwel = c .rwel; chosen = c .chosen; pending = true; value = v }
+pends c v = withPending c true v
 
 -- No register byte pends, and its value is 0 (Bytes on the wire, any start and any stop; Control register, a second byte).
 abbrev pub nonePends : Control → Control
-nonePends c = record { stored = c .stored; wel = c .wel; rwel = c .rwel; chosen = c .chosen; pending = false; value = 0 }
+nonePends c = withPending c false 0
 
 -- SDA pulled low for an acknowledge, with the phase after it (Bytes on the wire, acknowledged from the eighth fall).
 abbrev pub acknowledged : Phase → Talk
@@ -40,7 +29,7 @@ rested p = record { phase = p; high = 0; out = 0; own = true }
 
 -- An acknowledge ends: SDA is released, all else stays (Bytes on the wire, to the ninth fall).
 abbrev pub released : Talk → Talk
-released t = record { phase = t .phase; high = t .high; out = t .out; own = true }
+released t = withOwn t true
 
 -- A byte being sent: its highest bit is out (Bytes on the wire, read).
 abbrev pub sending : Phase → ℕ → Talk

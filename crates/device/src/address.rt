@@ -8,7 +8,8 @@ use part::state::Phase;
 use part::state::Talk;
 ghost use mathlib.Core.Path.{_≡_};
 ghost use mathlib.Core.Bool.{Bool};
-ghost use Rattle.device.specs.Talk.{withChosen, acknowledged, rested, matches, addressOf};
+ghost use Rattle.part.specs.State.{withChosen};
+ghost use Rattle.device.specs.Talk.{acknowledged, rested, matches, addressOf};
 ghost use Rattle.device.specs.Bytes.{slaveOf, highOf, lowOf};
 
 pub const REGISTER_ADDRESS: u16 = 0xffff;

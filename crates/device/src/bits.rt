@@ -7,7 +7,8 @@ use part::state::Phase;
 use part::state::Talk;
 ghost use mathlib.Core.Path.{_≡_};
 ghost use mathlib.Core.Bool.{Bool};
-ghost use Rattle.device.specs.Talk.{withTalk, released, sending};
+ghost use Rattle.part.specs.State.{withTalk};
+ghost use Rattle.device.specs.Talk.{released, sending};
 ghost use Rattle.device.specs.Bytes.{nextBit, bitOf, fetchRegister, answeredBy, ninthOf};
 
 fn release(t: Talk) -> Talk

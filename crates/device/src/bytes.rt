@@ -9,8 +9,9 @@ use part::state::Load;
 use part::state::Phase;
 ghost use mathlib.Core.Path.{_≡_};
 ghost use mathlib.Core.Bool.{Bool};
-ghost use Rattle.device.specs.Talk.{withTalk, pends, nonePends, rested};
-ghost use Rattle.device.specs.Bytes.{takenOf, dataBy, registerBy, registerSent, byteOf, keptOf};
+ghost use Rattle.part.specs.State.{withTalk};
+ghost use Rattle.device.specs.Talk.{pends, nonePends, rested};
+ghost use Rattle.device.specs.Bytes.{takenOf, dataBy, registerBy, registerSent, byteOf, keptBy, expectsData};
 
 // A register byte pends.
 fn pend(c: Control, value: u8) -> Control
@@ -40,11 +41,12 @@ pub fn taken(kind: Kind, d: Device) -> bool
     control.wel & !lock::locked(kind, control.stored, d.counter)
 }
 
-fn data(kind: Kind, d: Device) -> Device
-    ensures { λ r. ⌜ r ≡ dataBy (takenOf kind d) d ⌝ }
+// The device after an array byte that is taken, or is not.
+pub fn data(takes: bool, d: Device) -> Device
+    ensures { λ r. ⌜ r ≡ dataBy takes d ⌝ }
 {
     let mut next = d;
-    if taken(kind, d) {
+    if takes {
         let t = address::acknowledge(Phase::Data);
         let p = page::next_in_page(d.counter);
         next.talk = t;
@@ -110,34 +112,38 @@ pub fn byte(kind: Kind, select: u8, d: Device, v: u8) -> Device
         Phase::Slave => address::slave(select, d, v),
         Phase::High => address::high(d, v),
         Phase::Low => address::low(kind, d, v),
-        Phase::Data => data(kind, d),
+        Phase::Data => data(taken(kind, d), d),
         Phase::Register => register(d, v),
         Phase::Send => sent(d),
         Phase::SendRegister => register_sent(d),
     }
 }
 
-// The page load after a byte.
-pub fn kept(kind: Kind, d: Device, v: u8, load: Load) -> Load
-    ensures { λ r. ⌜ r ≡ keptOf kind d v load ⌝ }
+// The page load after an array byte that is taken, or is not.
+pub fn kept(takes: bool, d: Device, v: u8, load: Load) -> Load
+    ensures { λ r. ⌜ r ≡ keptBy takes d v load ⌝ }
+{
+    if takes {
+        return page::filled(load, d.counter, v);
+    }
+    load
+}
+
+// Whether a byte would be array data: no other byte touches the load.
+pub fn expects_data(d: Device) -> bool
+    ensures { λ r. ⌜ r ≡ expectsData (d .talk .phase) ⌝ }
 {
     let talk = d.talk;
     let phase = talk.phase;
     match phase {
-        Phase::Data => {
-            if taken(kind, d) {
-                page::filled(load, d.counter, v)
-            } else {
-                load
-            }
-        }
-        Phase::Idle => load,
-        Phase::Silent => load,
-        Phase::Slave => load,
-        Phase::High => load,
-        Phase::Low => load,
-        Phase::Register => load,
-        Phase::Send => load,
-        Phase::SendRegister => load,
+        Phase::Data => true,
+        Phase::Idle => false,
+        Phase::Silent => false,
+        Phase::Slave => false,
+        Phase::High => false,
+        Phase::Low => false,
+        Phase::Register => false,
+        Phase::Send => false,
+        Phase::SendRegister => false,
     }
 }

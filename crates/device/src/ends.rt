@@ -1,6 +1,7 @@
 // A start, a stop, and reset.
 use crate::address;
 use crate::bytes;
+use control::Order;
 use part::state::Control;
 use part::state::Device;
 use part::state::Phase;
@@ -37,12 +38,11 @@ pub fn start(writing: bool, d: Device) -> Device
     next
 }
 
-// The device after a stop.
-pub fn stop(wp: bool, d: Device) -> Device
-    ensures { λ r. ⌜ r ≡ stoppedOf wp d ⌝ }
+// The device after a stop that carries out an order.
+pub fn stop(order: Order, d: Device) -> Device
+    ensures { λ r. ⌜ r ≡ stoppedOf order d ⌝ }
 {
     let control = d.control;
-    let order = control::order_of(wp, control);
     let carried = control::carry_out(order, control);
     let t = address::rest(Phase::Idle);
     let c = drop_all(carried);

@@ -3,6 +3,8 @@ use Prim.Native.Nat.{ℕ, min}
 use mathlib.Core.Bool.{Bool, true, false}
 use lib.Dec.{eqb}
 use Rattle.part.specs.Page.{at}
+use Rattle.part.specs.State.{withChip, withTimers, withWire, withDevice, withWrite, withHold, withWatchdog, withCounter, withControl, withStored}
+use Rattle.part.specs.declared.state.Chip.{Chip}
 use Rattle.part.specs.declared.state.Timers.{Timers}
 use Rattle.part.specs.declared.state.Wire.{Wire}
 use Rattle.part.specs.declared.state.Device.{Device}
@@ -22,16 +24,18 @@ fieldBy false new old = new
 unfoldable pub fieldOf : ℕ → ℕ → ℕ → ℕ
 fieldOf most word old = fieldBy (eqb word keepWord) (min word most) old
 
+-- The chip with the part number and the select put in.
+abbrev pub chipOf : Preset → Chip → Chip
+chipOf p c = record { part = fieldOf 65535 (p .part) (c .part); select = fieldOf 255 (p .select) (c .select) }
+
 -- The timers with three words put in: write time left, reset hold, watchdog left.
 unfoldable pub timersOf : Preset → Timers → Timers
 timersOf p t =
-    record {
-      write = fieldOf 4294967295 (p .write) (t .write);
-      hold = fieldOf 4294967295 (p .hold) (t .hold);
-      reset = t .reset;
-      low = t .low;
-      watchdog = record { running = t .watchdog .running; left = fieldOf 4294967295 (p .watchdog) (t .watchdog .left) };
-    }
+    withWatchdog
+    (withHold
+    (withWrite t (fieldOf 4294967295 (p .write) (t .write)))
+    (fieldOf 4294967295 (p .hold) (t .hold)))
+    (record { running = t .watchdog .running; left = fieldOf 4294967295 (p .watchdog) (t .watchdog .left) })
 
 -- The wire with the count of committed bits put in.
 unfoldable pub wireOf : Preset → Wire → Wire
@@ -50,28 +54,13 @@ wireOf p w =
 -- The device with the address counter and the stored byte put in.
 unfoldable pub deviceOf : Preset → Device → Device
 deviceOf p d =
-    record {
-      talk = d .talk;
-      counter = at (fieldOf 65535 (p .counter) (d .counter .0));
-      control =
-          record {
-            stored = fieldOf 255 (p .stored) (d .control .stored);
-            wel = d .control .wel;
-            rwel = d .control .rwel;
-            chosen = d .control .chosen;
-            pending = d .control .pending;
-            value = d .control .value;
-          };
-    }
+    withControl
+    (withCounter d (at (fieldOf 65535 (p .counter) (d .counter .0))))
+    (withStored (d .control) (fieldOf 255 (p .stored) (d .control .stored)))
 
 -- The state with all eight words put in.
 unfoldable pub putInOf : Preset → State → State
 putInOf p s =
-    record {
-      part = fieldOf 65535 (p .part) (s .part);
-      select = fieldOf 255 (p .select) (s .select);
-      timers = timersOf p (s .timers);
-      wire = wireOf p (s .wire);
-      device = deviceOf p (s .device);
-      load = s .load;
-    }
+    withDevice
+    (withWire (withTimers (withChip s (chipOf p (s .chip))) (timersOf p (s .timers))) (wireOf p (s .wire)))
+    (deviceOf p (s .device))

@@ -1,4 +1,5 @@
 // Words put into fields: too wide a word counts as the field's largest number, and `KEEP` leaves a field alone.
+use part::state::Chip;
 use part::state::Control;
 use part::state::Device;
 use part::state::Frame;
@@ -126,10 +127,13 @@ fn preset_wire(p: Preset, w: Wire) -> Wire
 pub fn put_in(p: Preset, s: State) -> State
     ensures { λ r. ⌜ r ≡ putInOf p s ⌝ }
 {
+    let chip = s.chip;
     let load = s.load;
     State {
-        part: field16(p.part, s.part),
-        select: field8(p.select, s.select),
+        chip: Chip {
+            part: field16(p.part, chip.part),
+            select: field8(p.select, chip.select),
+        },
         timers: preset_timers(p, s.timers),
         wire: preset_wire(p, s.wire),
         device: preset_device(p, s.device),

@@ -1,3 +1,4 @@
+pub mod State
 pub mod Lock
 pub mod Timers
 pub mod Page

@@ -5,6 +5,7 @@ use mathlib.Core.List.{List, [], _∷_}
 use lib.ListN.{getD}
 use lib.Dec.{eqb, ltb}
 use Rattle.ground.specs.Numbers.{resetHold, longWatch, middleWatch, shortWatch}
+use Rattle.part.specs.State.{withWrite, withHold, withReset, withLow, withWatchdog}
 use Rattle.part.specs.declared.state.Timers.{Timers}
 use Rattle.part.specs.declared.state.Watchdog.{Watchdog}
 
@@ -34,23 +35,23 @@ writes t = ltb 0 (t .write)
 
 -- The write time falls, not below 0 (State and time, 1).
 abbrev pub writeFell : ℕ → Timers → Timers
-writeFell e t = record { write = t .write - e; hold = t .hold; reset = t .reset; low = t .low; watchdog = t .watchdog }
+writeFell e t = withWrite t (t .write - e)
 
 -- The hold falls, reset going on (State and time, 1).
 abbrev pub holdFell : ℕ → Timers → Timers
-holdFell e t = record { write = t .write; hold = t .hold - e; reset = true; low = t .low; watchdog = t .watchdog }
+holdFell e t = withHold t (t .hold - e)
 
 -- Reset ends and the watchdog is loaded (State and time, 1).
 abbrev pub resetEnds : Watchdog → Timers → Timers
-resetEnds w t = record { write = t .write; hold = 0; reset = false; low = t .low; watchdog = w }
+resetEnds w t = withWatchdog (withReset (withHold t 0) false) w
 
 -- The running watchdog falls (State and time, 1).
 abbrev pub watchFell : ℕ → Timers → Timers
-watchFell e t = record { write = t .write; hold = t .hold; reset = false; low = t .low; watchdog = runs (t .watchdog .left - e) }
+watchFell e t = withWatchdog t (runs (t .watchdog .left - e))
 
 -- Reset begins with the whole hold, the watchdog at 0 (State and time, 1).
 abbrev pub resetBegins : Timers → Timers
-resetBegins t = record { write = t .write; hold = resetHold; reset = true; low = t .low; watchdog = runs 0 }
+resetBegins t = withWatchdog (withReset (withHold t resetHold) true) (runs 0)
 
 -- Rule 1 by cases: reset active, low-VCC flag, hold used up, watchdog running, its time used up (State and time, 1).
 abbrev pub timedBy : Bool → Bool → Bool → Bool → Bool → Watchdog → ℕ → Timers → Timers
@@ -69,5 +70,5 @@ timedOf stored e t =
 
 -- Rule 2: good VCC clears the flag; low VCC resets with the whole hold and sets it (State and time, 2).
 unfoldable pub suppliedOf : Bool → Timers → Timers
-suppliedOf true t = record { write = t .write; hold = t .hold; reset = t .reset; low = false; watchdog = t .watchdog }
-suppliedOf false t = record { write = t .write; hold = resetHold; reset = true; low = true; watchdog = t .watchdog }
+suppliedOf true t = withLow t false
+suppliedOf false t = withLow (withReset (withHold t resetHold) true) true

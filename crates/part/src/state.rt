@@ -89,9 +89,15 @@ pub struct Timers {
     pub watchdog: Watchdog,
 }
 
-pub struct State {
+// The chip on the bench: its part number and its device select.
+pub struct Chip {
     pub part: u16,
     pub select: u8,
+}
+
+// The whole state. Definitions take its fields anew by the setters of specs/State.
+pub struct State {
+    pub chip: Chip,
     pub timers: Timers,
     pub wire: Wire,
     pub device: Device,

@@ -54,7 +54,7 @@ module _ (s : State) (array : List ℕ) (wp : Bool) (w : Wire) (f : Phase) (high
   -- The state with an empty load and another control register.
   abbrev bare : Timers → Talk → Control → State
   bare t k′ c =
-      record { part = s .part; select = s .select; timers = t; wire = w; device = record { talk = k′; counter = p; control = c }; load = emptyLoad }
+      record { part = s .chip .part; select = s .chip .select; timers = t; wire = w; device = record { talk = k′; counter = p; control = c }; load = emptyLoad }
 
   pub quiet-acts : Acts s array wp Quiet w k p m k p m
   quiet-acts = record { state = λ t. refl; kept = λ t. refl }
@@ -77,7 +77,7 @@ module _ (s : State) (array : List ℕ) (wp : Bool) (w : Wire) (f : Phase) (high
   unfolding byteStep byteOf keptOf
   byte-sent v h = record { state = λ t. rw (byte-by f, load-by f, h); kept = λ t. refl }
 
-  pub byte-taken : (v : ℕ) → wayOf f ≡ 2 → (s .device .control .wel && not (lockedOf (kindOf (s .part)) (s .device .control .stored) p)) ≡ true
+  pub byte-taken : (v : ℕ) → wayOf f ≡ 2 → (s .device .control .wel && not (lockedOf (kindOf (s .chip .part)) (s .device .control .stored) p)) ≡ true
       → Acts s array wp (Byte v) w k p m (talkOf f 0 0 false) (nextInPage p) (filledOf m p v)
   unfolding byteStep byteOf keptOf takenOf
   byte-taken v h e = record { state = λ t. rw (way-two f h, e); kept = λ t. refl }
@@ -99,7 +99,7 @@ module _ (s : State) (array : List ℕ) (wp : Bool) (w : Wire) (f : Phase) (high
   ninth-ends b g h e = record { state = λ t. rw (way-three f h g, e); kept = λ t. refl }
 
   pub ninth-fetches : (b : Bool) → (wayOf f ≡ 4 → ⊥) → 3 ≤ wayOf f → b ≡ false
-      → Acts s array wp (Ninth b) w k p m (talkOf f 0 (byteAt array p) (highest (byteAt array p))) (nextInArray (kindOf (s .part)) p) m
+      → Acts s array wp (Ninth b) w k p m (talkOf f 0 (byteAt array p) (highest (byteAt array p))) (nextInArray (kindOf (s .chip .part)) p) m
   unfolding ninthOf
   ninth-fetches b g h e = record { state = λ t. rw (way-three f h g, e); kept = λ t. refl }
 

@@ -73,7 +73,7 @@ module _ (part select : ℕ) (dog : Watchdog) (p : Place) (c : Control) where
 module _ (s : State) (h : Dark s) where
   -- A dark state has these fields.
   dark-as : (write : ℕ) (lines : Lines)
-      → withLines s write lines ≡ darkAt (s .part) (s .select) (s .timers .watchdog) (s .device .counter) (s .device .control) write lines
+      → withLines s write lines ≡ darkAt (s .chip .part) (s .chip .select) (s .timers .watchdog) (s .device .counter) (s .device .control) write lines
   dark-as write lines =
       ap
       (λ (t : Timers). movedOf s (record { write = write; hold = t .hold; reset = t .reset; low = t .low; watchdog = t .watchdog }) (record { lines = lines; frame = s .wire .frame }) (s .device .talk) (s .device .counter) (s .load))
@@ -87,12 +87,12 @@ module _ (s : State) (h : Dark s) where
       → partOf (withLines s (write - e) (record { scl = sclOf l; sda = sdaOf l })) array ≡ partStep e l (partOf (withLines s write lines) array)
   dark-turn e l write lines array v =
       ap (λ (x : State). partOf x array) (dark-as (write - e) (record { scl = sclOf l; sda = sdaOf l }))
-      ∙ dark-steps (s .part) (s .select) (s .timers .watchdog) (s .device .counter) (s .device .control) e l write lines array v
+      ∙ dark-steps (s .chip .part) (s .chip .select) (s .timers .watchdog) (s .device .counter) (s .device .control) e l write lines array v
       (ap dropped (sym (h .latches)) ∙ sym (h .calm .settled))
       ∙ sym (ap (λ (x : State). partStep e l (partOf x array)) (dark-as write lines))
 
   -- Its answer.
-  pub dark-said : (write : ℕ) (lines : Lines) → answerOf (withLines s write lines) ≡ 1 + baseOf (kindOf (s .part) .high) true write
+  pub dark-said : (write : ℕ) (lines : Lines) → answerOf (withLines s write lines) ≡ 1 + baseOf (kindOf (s .chip .part) .high) true write
   dark-said write lines =
       ap answerOf (dark-as write lines)
-      ∙ dark-answer (s .part) (s .select) (s .timers .watchdog) (s .device .counter) (s .device .control) write lines
+      ∙ dark-answer (s .chip .part) (s .chip .select) (s .timers .watchdog) (s .device .counter) (s .device .control) write lines

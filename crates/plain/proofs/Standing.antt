@@ -32,7 +32,7 @@ module _ (s : State) (es ls array row₀ : List ℕ) (from base : ℕ) where
   pub record Stands (calm : Bool) (write : ℕ) (running : Bool) (left all room : ℕ) (w : Wire) (k : Talk) (p : Place) (m : Load) (row : List ℕ) (i : ℕ) : Type 0 where
     pub long : length es ≡ length ls
     pub wide : length row₀ ≡ length ls
-    pub rests : base ≡ baseOf (kindOf (s .part) .high) false write
+    pub rests : base ≡ baseOf (kindOf (s .chip .part) .high) false write
     pub small : base ≤ 6
     pub times : Room write running left all
     pub fits : room ≤ all
@@ -59,7 +59,7 @@ sum-of-three a b c = omega arith
 -- The answer while no timer ends.
 pub answer-at : (s : State) (write left n : ℕ) (running : Bool) (w : Wire) (k : Talk) (p : Place) (m : Load) → (0 < write → n < write)
     → answerOf (movedOf s (timersAt (s .timers .hold) write running left n) w k p m)
-    ≡ orZero (k .own) 1 + baseOf (kindOf (s .part) .high) false write
+    ≡ orZero (k .own) 1 + baseOf (kindOf (s .chip .part) .high) false write
 unfolding answerOf
 answer-at s write left n running w k p m h = rw (still-writes write n h) (sum-of-three (orZero (k .own) 1) _ _)
 
@@ -75,7 +75,7 @@ begins hold write left n running reset low z r l = rw (z, r, l, sub-zero write, 
 
 -- What holds where the loop starts.
 pub stands-first : (s : State) (es ls array row : List ℕ) (from base all : ℕ) (calm : Bool) → length es ≡ length ls → length row ≡ length ls → from ≤ length ls
-    → base ≡ baseOf (kindOf (s .part) .high) false (s .timers .write) → base ≤ 6
+    → base ≡ baseOf (kindOf (s .chip .part) .high) false (s .timers .write) → base ≤ 6
     → Room (s .timers .write) (s .timers .watchdog .running) (s .timers .watchdog .left) all
     → (calm ≡ true → Calm (s .device .control) (s .load)) → s .timers .reset ≡ false → s .timers .low ≡ false
     → Stands s es ls array row from base calm (s .timers .write) (s .timers .watchdog .running) (s .timers .watchdog .left) all all (s .wire) (s .device .talk) (s .device .counter) (s .load) row from

@@ -90,7 +90,7 @@ module _ {s : State} {es ls array row₀ : List ℕ} {from base : ℕ} {calm : B
       let fell : write′ ≡ write - (all - room + getD es i 0) = u ∙ ap (λ (t : ℕ). write - t) spent in
       let within : 0 < write → all - room + getD es i 0 < write = λ z. not-over all room (getD es i 0) write e (g .fits) (g .times .writes z) in
       let same : ltb 0 write′ ≡ ltb 0 write = ap (ltb 0) fell ∙ still-writes write (all - room + getD es i 0) within in
-      let rests : base ≡ baseOf (kindOf (s .part) .high) false write′ = g .rests ∙ ap (λ (b : Bool). orZero (pinBy (kindOf (s .part) .high) false) 2 + orZero b 4) (sym same) in
+      let rests : base ≡ baseOf (kindOf (s .chip .part) .high) false write′ = g .rests ∙ ap (λ (b : Bool). orZero (pinBy (kindOf (s .chip .part) .high) false) 2 + orZero b 4) (sym same) in
       let z : all′ - all′ ≡ 0 = omega arith in
       record {
         long = g .long;

@@ -13,8 +13,9 @@ use Rattle.part.specs.declared.state.Phase.{Phase}
 use Rattle.part.specs.declared.state.Phase.the-variants.{Idle, Silent, Slave, High, Low, Data, Register, Send, SendRegister}
 use Rattle.part.specs.declared.state.Device.{Device}
 use Rattle.part.specs.declared.state.Load.{Load}
-use Rattle.device.specs.Talk.{withTalk, acknowledged, rested, released, sending}
-use Rattle.device.specs.Bytes.{takenOf, dataBy, byteIn, byteOf, keptBy, keptIn, keptOf, nextBit, bitIn, bitOf, answeredBy, ninthIn, ninthOf}
+use Rattle.part.specs.State.{withTalk}
+use Rattle.device.specs.Talk.{acknowledged, rested, released, sending}
+use Rattle.device.specs.Bytes.{takenOf, dataBy, byteIn, byteOf, keptBy, expectsData, keptOf, nextBit, bitIn, bitOf, answeredBy, ninthIn, ninthOf}
 use Rattle.plain.specs.Tests.{wayOf}
 
 -- A bit: below way 3 nothing is being sent.
@@ -57,7 +58,7 @@ abbrev loadBy : Bool → Kind → Device → ℕ → Load → Load
 loadBy true k d v l = keptBy (takenOf k d) d v l
 loadBy false k d v l = l
 
-pub load-by : (p : Phase) (k : Kind) (d : Device) (v : ℕ) (l : Load) → keptIn p k d v l ≡ loadBy (eqb (wayOf p) 2) k d v l
+pub load-by : (p : Phase) (k : Kind) (d : Device) (v : ℕ) (l : Load) → keptBy (expectsData p && takenOf k d) d v l ≡ loadBy (eqb (wayOf p) 2) k d v l
 load-by Idle k d v l = refl
 load-by Silent k d v l = refl
 load-by Slave k d v l = refl

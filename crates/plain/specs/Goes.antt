@@ -19,8 +19,7 @@ partOf s array = record { state = s; array = array }
 abbrev pub movedOf : State → Timers → Wire → Talk → Place → Load → State
 movedOf s t w k p l =
     record {
-      part = s .part;
-      select = s .select;
+      chip = s .chip;
       timers = t;
       wire = w;
       device = record { talk = k; counter = p; control = s .device .control };

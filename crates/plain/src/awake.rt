@@ -62,7 +62,8 @@ pub fn pass(
             at: from,
         };
     }
-    let kind = kinds::kind_of(s.part);
+    let chip = s.chip;
+    let kind = kinds::kind_of(chip.part);
     let dog = timers::loaded(control.stored);
     let base = rooms::base_of(kind.high, false, times.write);
     let mut calm = tests::is_calm(control, filled);

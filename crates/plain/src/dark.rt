@@ -29,7 +29,8 @@ pub fn pass(
 {
     let times = s.timers;
     let before = s.wire;
-    let kind = kinds::kind_of(s.part);
+    let chip = s.chip;
+    let kind = kinds::kind_of(chip.part);
     let mut write = times.write;
     let mut lines = before.lines;
     let mut i = from;

@@ -38,7 +38,8 @@ use Rattle.device.specs.Talk.{addressOf, matches}
 use Rattle.device.specs.Bytes.{slaveBy, slaveOf, highOf, addressBy, lowOf, takenOf, dataBy, registerBy, byteIn, byteOf, keptOf, bitIn, bitOf, answeredBy, ninthIn, ninthOf}
 use Rattle.device.specs.Ends.{startedOf, stoppedOf, endedOf}
 use Rattle.sample.specs.Level.{sclOf, wpOf, vccOf}
-use Rattle.sample.specs.Sample.{withWire, begun, latchedBy, opensOf, resetOf, startOf, stopOf, byteStep, heardBy, lineOf, seenOf, wiredOf, goesOnBy, stepOf}
+use Rattle.part.specs.State.{withWire}
+use Rattle.sample.specs.Sample.{begun, latchedBy, opensOf, resetOf, startOf, stopOf, byteStep, heardBy, lineOf, seenOf, wiredOf, goesOnBy, stepOf}
 use Rattle.sample.proofs.Sampled.{array-length}
 use Rattle.sample.specs.Run.{Part, partStep, runOf}
 use Rattle.ranges.specs.Fit.{Fit}
@@ -47,26 +48,26 @@ use Rattle.ranges.proofs.Times.{Times, timed-times, supplied-times, wat
 
 -- The eight ranges, one by one; the three times are together.
 pub record Within (s : State) : Type 0 where
-  pub counter : s .device .counter .0 < kindOf (s .part) .size
+  pub counter : s .device .counter .0 < kindOf (s .chip .part) .size
   pub bits : s .wire .frame .bits ≤ mostBits
   pub times : Times (s .timers)
-  pub part : known (s .part) ≡ true
-  pub select : leb (s .select) mostSelect ≡ true
+  pub part : known (s .chip .part) ≡ true
+  pub select : leb (s .chip .select) mostSelect ≡ true
   pub stored : storable (s .device .control .stored) ≡ true
 
 -- So says the test.
 pub range-within : (s : State) → inRange s ≡ true → Within s
 unfolding inRange
 range-within s e =
-    let a = and-split (ltb (s .device .counter .0) (kindOf (s .part) .size)) _ e in
+    let a = and-split (ltb (s .device .counter .0) (kindOf (s .chip .part) .size)) _ e in
     let b = and-split (leb (s .wire .frame .bits) mostBits) _ (a .1) in
     let t = and-split (timersInRange (s .timers)) _ (b .1) in
     let u = and-split (leb (s .timers .write) writeTime) _ (t .0) in
     let w = and-split (leb (s .timers .hold) resetHold) (leb (s .timers .watchdog .left) longWatch) (u .1) in
-    let k = and-split (known (s .part)) _ (t .1) in
-    let c = and-split (leb (s .select) mostSelect) (storable (s .device .control .stored)) (k .1) in
+    let k = and-split (known (s .chip .part)) _ (t .1) in
+    let c = and-split (leb (s .chip .select) mostSelect) (storable (s .device .control .stored)) (k .1) in
     record {
-      counter = ltb-true (s .device .counter .0) (kindOf (s .part) .size) (a .0);
+      counter = ltb-true (s .device .counter .0) (kindOf (s .chip .part) .size) (a .0);
       bits = leb-true (s .wire .frame .bits) mostBits (b .0);
       times = record {
         write = leb-true (s .timers .write) writeTime (u .0);
@@ -83,13 +84,13 @@ pub within-range : (s : State) → Within s → inRange s ≡ true
 unfolding inRange
 within-range s g =
     rw (
-      lt-ltb (s .device .counter .0) (kindOf (s .part) .size) (g .counter),
+      lt-ltb (s .device .counter .0) (kindOf (s .chip .part) .size) (g .counter),
       le-leb (s .wire .frame .bits) mostBits (g .bits),
       le-leb (s .timers .write) writeTime (g .times .write),
       le-leb (s .timers .hold) resetHold (g .times .hold),
       le-leb (s .timers .watchdog .left) longWatch (g .times .left),
-      g .part,
-      g .select,
+      g .chip .part,
+      g .chip .select,
     ) (g .stored)
 
 -- The two ranges of a device: its counter and its stored byte.
@@ -172,10 +173,10 @@ module _ (k : Kind) (q : Sound k) (d : Device) (g : Fits k d) where
 
 -- A state with the part and the select as they were, all else in its ranges.
 kept : (s : State) → Within s → (t : Timers) (w : Wire) (d : Device) (l : Load) → Times t → w .frame .bits ≤ mostBits
-    → Fits (kindOf (s .part)) d
-    → Within (record { part = s .part; select = s .select; timers = t; wire = w; device = d; load = l })
+    → Fits (kindOf (s .chip .part)) d
+    → Within (record { part = s .chip .part; select = s .chip .select; timers = t; wire = w; device = d; load = l })
 kept s g t w d l h b f =
-    record { counter = f .0; bits = b; times = h; part = g .part; select = g .select; stored = f .1 }
+    record { counter = f .0; bits = b; times = h; part = g .chip .part; select = g .chip .select; stored = f .1 }
 
 -- Each sign keeps the ranges, on a wire as the sign says.
 heard-within : (sign : Sign) (wp : Bool) (array : List ℕ) (s : State) (w : Wire)
@@ -189,8 +190,8 @@ heard-within Start wp array s w e g =
       counter = g .counter;
       bits = omega arith;
       times = watched-times (s .device .control .stored) (s .timers) (g .times);
-      part = g .part;
-      select = g .select;
+      part = g .chip .part;
+      select = g .chip .select;
       stored = g .stored;
     }
 heard-within (Stop n) wp array s w e g =
@@ -200,21 +201,21 @@ heard-within (Stop n) wp array s w e g =
       times =
           begun-times (takesTime (orderOf wp (s .device .control))) (begun (marked (s .load)) (s .timers))
           (begun-times (marked (s .load)) (s .timers) (g .times));
-      part = g .part;
-      select = g .select;
+      part = g .chip .part;
+      select = g .chip .select;
       stored = order-stored (orderOf wp (s .device .control)) (s .device .control) (g .stored);
     }
 heard-within Bit wp array s w e g =
     kept s g (s .timers) w (bitOf (s .device)) (s .load) (g .times) (omega arith)
-    (bit-in (kindOf (s .part)) (kind-sound (s .part) (g .part)) (s .device) (g .counter, g .stored) (s .device .talk .phase))
+    (bit-in (kindOf (s .chip .part)) (kind-sound (s .chip .part) (g .chip .part)) (s .device) (g .counter, g .stored) (s .device .talk .phase))
 heard-within (Byte v) wp array s w e g =
-    kept s g (s .timers) w (byteOf (kindOf (s .part)) (s .select) (s .device) v)
-    (keptOf (kindOf (s .part)) (s .device) v (s .load)) (g .times) (omega arith)
-    (byte-in (kindOf (s .part)) (kind-sound (s .part) (g .part)) (s .device) (g .counter, g .stored)
-    (s .device .talk .phase) (s .select) v)
+    kept s g (s .timers) w (byteOf (kindOf (s .chip .part)) (s .chip .select) (s .device) v)
+    (keptOf (kindOf (s .chip .part)) (s .device) v (s .load)) (g .times) (omega arith)
+    (byte-in (kindOf (s .chip .part)) (kind-sound (s .chip .part) (g .chip .part)) (s .device) (g .counter, g .stored)
+    (s .device .talk .phase) (s .chip .select) v)
 heard-within (Ninth b) wp array s w e g =
-    kept s g (s .timers) w (ninthOf (kindOf (s .part)) array b (s .device)) (s .load) (g .times) (omega arith)
-    (ninth-in (kindOf (s .part)) (kind-sound (s .part) (g .part)) (s .device) (g .counter, g .stored)
+    kept s g (s .timers) w (ninthOf (kindOf (s .chip .part)) array b (s .device)) (s .load) (g .times) (omega arith)
+    (ninth-in (kindOf (s .chip .part)) (kind-sound (s .chip .part) (g .chip .part)) (s .device) (g .counter, g .stored)
     (s .device .talk .phase) b array)
 
 -- Low supply keeps the stored byte.
@@ -232,8 +233,8 @@ opens-within e level s g =
       times =
           supplied-times (vccOf level) (timedOf (s .device .control .stored) e (s .timers))
           (timed-times (s .device .control .stored) e (s .timers) (g .times));
-      part = g .part;
-      select = g .select;
+      part = g .chip .part;
+      select = g .chip .select;
       stored = latched-stored (vccOf level) (s .device .control) (g .stored);
     }
 
@@ -245,8 +246,8 @@ goes-within true level array s g =
       counter = g .counter;
       bits = omega arith;
       times = g .times;
-      part = g .part;
-      select = g .select;
+      part = g .chip .part;
+      select = g .chip .select;
       stored = g .stored;
     }
 goes-within false level array s g =
@@ -266,7 +267,7 @@ step-in-range e level array s h =
     within-range (stepOf e level array s) (step-within e level array s (range-within s h))
 
 -- Each sign leaves the part number as it was.
-heard-part : (sign : Sign) (wp : Bool) (array : List ℕ) (s : State) → heardBy sign wp array s .part ≡ s .part
+heard-part : (sign : Sign) (wp : Bool) (array : List ℕ) (s : State) → heardBy sign wp array s .chip .part ≡ s .chip .part
 unfolding startOf stopOf byteStep
 heard-part Quiet wp array s = refl
 heard-part Start wp array s = refl
@@ -276,13 +277,13 @@ heard-part (Byte v) wp array s = refl
 heard-part (Ninth b) wp array s = refl
 
 -- So does rule 3 or 4.
-goes-part : (b : Bool) (level : ℕ) (array : List ℕ) (s : State) → goesOnBy b level array s .part ≡ s .part
+goes-part : (b : Bool) (level : ℕ) (array : List ℕ) (s : State) → goesOnBy b level array s .chip .part ≡ s .chip .part
 unfolding resetOf wiredOf
 goes-part true level array s = refl
 goes-part false level array s = heard-part (seenOf level s) (wpOf level) array (wiredOf level s)
 
 -- A sample leaves the part number.
-pub step-part : (e level : ℕ) (array : List ℕ) (s : State) → stepOf e level array s .part ≡ s .part
+pub step-part : (e level : ℕ) (array : List ℕ) (s : State) → stepOf e level array s .chip .part ≡ s .chip .part
 unfolding stepOf opensOf
 step-part e level array s = goes-part (opensOf e level s .timers .reset) level array (opensOf e level s)
 

@@ -10,4 +10,4 @@ use Rattle.sample.specs.Run.{Part}
 -- A part that passes the tests of refusals 4 and 5: the ranges, and an array of its kind's size.
 pub record Fit (p : Part) : Type 0 where
   pub range : inRange (p .state) ≡ true
-  pub size : length (p .array) ≡ kindOf (p .state .part) .size
+  pub size : length (p .array) ≡ kindOf (p .state .chip .part) .size

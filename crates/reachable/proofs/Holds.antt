@@ -1,7 +1,7 @@
 -- What holds of every sample that a reachable part is given: no start and no stop while it holds SDA low, and marks only
 -- in the counter's page. Assumes nothing.
 use Prim.Native.Nat.{ℕ}
-use mathlib.Core.Bool.{Bool, true, false, true≢false}
+use mathlib.Core.Bool.{Bool, true, false, true≢false, _&&_}
 use mathlib.Core.List.{List}
 use mathlib.Core.Path.{_≡_, refl, ap, sym, _∙_}
 use lib.Dec.{eqb, ltb}
@@ -23,7 +23,7 @@ use Rattle.part.proofs.Places.{page-stays}
 use Rattle.wire.specs.Sign.{allButOne, fallSignBy, fallSign, signBy, signOf}
 use Rattle.wire.specs.declared.Sign.{Sign}
 use Rattle.wire.specs.declared.Sign.the-variants.{Quiet, Start, Stop, Bit, Byte, Ninth}
-use Rattle.device.specs.Bytes.{takenOf, dataBy, byteIn, byteOf, keptBy, keptIn, keptOf, bitOf, ninthOf}
+use Rattle.device.specs.Bytes.{takenOf, dataBy, byteIn, byteOf, keptBy, expectsData, keptOf, bitOf, ninthOf}
 use Rattle.device.proofs.Phases.{bit-stays, ninth-releases}
 use Rattle.sample.specs.Level.{sclOf, sdaOf, wpOf}
 use Rattle.sample.specs.Sample.{opensOf, resetOf, startOf, stopOf, byteStep, heardBy, lineOf, seenOf, wiredOf, goesOnBy, stepOf}
@@ -105,7 +105,7 @@ module _ (k : Kind) (d : Device) (l : Load) (x : marked l ≡ true → d .talk .
 
   -- A byte, by phase.
   byte-stays : (p : Phase) (s v : ℕ) → d .talk .phase ≡ p
-      → Stays (d .counter) l (byteIn p k s d v .counter) (keptIn p k d v l)
+      → Stays (d .counter) l (byteIn p k s d v .counter) (keptBy (expectsData p && takenOf k d) d v l)
   byte-stays Idle s v e = load-stays (byteIn Idle k s d v .counter) (λ f. cc)
   byte-stays Silent s v e = load-stays (byteIn Silent k s d v .counter) (λ f. cc)
   byte-stays Slave s v e = load-stays (byteIn Slave k s d v .counter) (λ f. cc)
@@ -121,16 +121,16 @@ heard-stays : (sign : Sign) (wp : Bool) (array : List ℕ) (s : State)
     → (marked (s .load) ≡ true → s .device .talk .phase ≡ Data)
     → Stays (s .device .counter) (s .load) (heardBy sign wp array s .device .counter) (heardBy sign wp array s .load)
 unfolding startOf stopOf byteStep byteOf keptOf
-heard-stays Quiet wp array s x = load-stays (kindOf (s .part)) (s .device) (s .load) x (s .device .counter) (λ e. refl)
+heard-stays Quiet wp array s x = load-stays (kindOf (s .chip .part)) (s .device) (s .load) x (s .device .counter) (λ e. refl)
 heard-stays Start wp array s x = dropped-stays (s .device .counter) (startOf s .device .counter) (s .load)
 heard-stays (Stop n) wp array s x = dropped-stays (s .device .counter) (stopOf wp s .device .counter) (s .load)
 heard-stays Bit wp array s x =
-    load-stays (kindOf (s .part)) (s .device) (s .load) x (bitOf (s .device) .counter) (λ e. rw (bit-stays (s .device) (cc)))
+    load-stays (kindOf (s .chip .part)) (s .device) (s .load) x (bitOf (s .device) .counter) (λ e. rw (bit-stays (s .device) (cc)))
 heard-stays (Byte v) wp array s x =
-    byte-stays (kindOf (s .part)) (s .device) (s .load) x (s .device .talk .phase) (s .select) v refl
+    byte-stays (kindOf (s .chip .part)) (s .device) (s .load) x (s .device .talk .phase) (s .chip .select) v refl
 heard-stays (Ninth b) wp array s x =
-    load-stays (kindOf (s .part)) (s .device) (s .load) x (ninthOf (kindOf (s .part)) array b (s .device) .counter)
-    (λ e. rw (ninth-releases (kindOf (s .part)) array b (s .device) (cc)))
+    load-stays (kindOf (s .chip .part)) (s .device) (s .load) x (ninthOf (kindOf (s .chip .part)) array b (s .device) .counter)
+    (λ e. rw (ninth-releases (kindOf (s .chip .part)) array b (s .device) (cc)))
 
 -- Rules 3 and 4.
 goes-stays : (b : Bool) (level : ℕ) (array : List ℕ) (s : State)

@@ -102,7 +102,7 @@ pub data Lowers : State → Type 0 where
 pub record Keeps (s : State) : Type 0 where
   -- Marks are set only while data comes in, WEL set, the counter's place not locked; that the marks lie in the
   -- counter's page: Holds.mark and Holds.page (Bytes on the wire, array data).
-  pub loading : marked (s .load) ≡ true → Loading (kindOf (s .part)) (s .device)
+  pub loading : marked (s .load) ≡ true → Loading (kindOf (s .chip .part)) (s .device)
   -- A register byte pends only in its phase and never beside a load (Control register).
   pub pending : s .device .control .pending ≡ true → Pending s
   -- The byte that pends is 0 where none does (Bytes on the wire, any start and any stop).
@@ -123,7 +123,7 @@ pub record Keeps (s : State) : Type 0 where
 -- What holds of every reachable part with its array, and of every sample given (State and time; Bytes on the wire).
 pub record Holds (p : Part) : Type 0 where
   -- The array has the size of the part (Refusal numbers, 5).
-  pub size : length (p .array) ≡ kindOf (p .state .part) .size
+  pub size : length (p .array) ≡ kindOf (p .state .chip .part) .size
   -- No start is seen while the part holds SDA low (State and time, 4).
   pub start : (e level : ℕ) → p .state .device .talk .own ≡ false
       → seenOf level (opensOf e level (p .state)) ≡ Start → ⊥

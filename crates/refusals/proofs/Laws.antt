@@ -46,7 +46,7 @@ rows-equal s es ls array row n h =
     let t =
     passed
     (inRange s)
-    (eqb (length array) (kindOf (s .part) .size))
+    (eqb (length array) (kindOf (s .chip .part) .size))
     (eqb (length es) (length ls))
     (leb (length ls) mostSamples)
     (eqb (length row) (length ls))

@@ -22,11 +22,11 @@ timersInRange t = leb (t .write) writeTime && (leb (t .hold) resetHold && leb (t
 -- The eight ranges: counter, bits, three times, part, select, stored byte (State and time, ranges).
 unfoldable pub inRange : State → Bool
 inRange s =
-    ltb (s .device .counter .0) (kindOf (s .part) .size)
+    ltb (s .device .counter .0) (kindOf (s .chip .part) .size)
     && (leb (s .wire .frame .bits) mostBits
     && (timersInRange (s .timers)
-    && (known (s .part)
-    && (leb (s .select) mostSelect
+    && (known (s .chip .part)
+    && (leb (s .chip .select) mostSelect
     && storable (s .device .control .stored)))))
 
 -- Refusals 9 and 10 at one sample, in this order; otherwise what the later samples say (Refusal numbers).
@@ -55,7 +55,7 @@ unfoldable pub judgedOf : State → List ℕ → List ℕ → List ℕ → List 
 judgedOf s es ls array answers =
     judgedBy
     (inRange s)
-    (eqb (length array) (kindOf (s .part) .size))
+    (eqb (length array) (kindOf (s .chip .part) .size))
     (eqb (length es) (length ls))
     (leb (length ls) mostSamples)
     (eqb (length answers) (length ls))

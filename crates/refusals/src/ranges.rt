@@ -28,7 +28,8 @@ fn times_in_range(t: Timers) -> bool
 pub fn in_range(s: State) -> bool
     ensures { λ r. ⌜ r ≡ inRange s ⌝ }
 {
-    let kind = kinds::kind_of(s.part);
+    let chip = s.chip;
+    let kind = kinds::kind_of(chip.part);
     let device = s.device;
     let counter = device.counter;
     let control = device.control;
@@ -38,5 +39,5 @@ pub fn in_range(s: State) -> bool
     let stored = is_storable(control.stored);
     (counter.0 < kind.size)
         & ((frame.bits <= MOST_BITS)
-            & (times & ((0 < kind.size) & ((s.select <= MOST_SELECT) & stored))))
+            & (times & ((0 < kind.size) & ((chip.select <= MOST_SELECT) & stored))))
 }

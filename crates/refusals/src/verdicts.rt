@@ -33,13 +33,13 @@ pub fn power(part: u16, select: u8, stored: u8) -> Reply
             place: 0,
         };
     }
-    if ranges::is_storable(stored) {
-        return Reply::Accepted(0);
+    if !ranges::is_storable(stored) {
+        return Reply::Refused {
+            number: 3,
+            place: 0,
+        };
     }
-    Reply::Refused {
-        number: 3,
-        place: 0,
-    }
+    Reply::Accepted(0)
 }
 
 // The earliest faulty sample of two rows of one length, or acceptance with that length.
@@ -129,36 +129,37 @@ fn samples(elapsed: &[u32], levels: &[u8]) -> Reply
 pub fn judge(s: State, elapsed: &[u32], levels: &[u8], array: &[u8], answers: &[u8]) -> Reply
     ensures { λ r. ⌜ meant r ≡ judgedOf s (now (elapsed .entry)) (now (levels .entry)) (now (array .entry)) (now (answers .entry)) ⌝ }
 {
-    let kind = kinds::kind_of(s.part);
-    if ranges::in_range(s) {
-        if array.len() != kind.size as usize {
-            return Reply::Refused {
-                number: 5,
-                place: 0,
-            };
-        }
-        if elapsed.len() != levels.len() {
-            return Reply::Refused {
-                number: 6,
-                place: 0,
-            };
-        }
-        if levels.len() > MOST_SAMPLES {
-            return Reply::Refused {
-                number: 7,
-                place: 0,
-            };
-        }
-        if answers.len() != levels.len() {
-            return Reply::Refused {
-                number: 8,
-                place: 0,
-            };
-        }
-        return samples(elapsed, levels);
+    let chip = s.chip;
+    let kind = kinds::kind_of(chip.part);
+    if !ranges::in_range(s) {
+        return Reply::Refused {
+            number: 4,
+            place: 0,
+        };
     }
-    Reply::Refused {
-        number: 4,
-        place: 0,
+    if array.len() != kind.size as usize {
+        return Reply::Refused {
+            number: 5,
+            place: 0,
+        };
     }
+    if elapsed.len() != levels.len() {
+        return Reply::Refused {
+            number: 6,
+            place: 0,
+        };
+    }
+    if levels.len() > MOST_SAMPLES {
+        return Reply::Refused {
+            number: 7,
+            place: 0,
+        };
+    }
+    if answers.len() != levels.len() {
+        return Reply::Refused {
+            number: 8,
+            place: 0,
+        };
+    }
+    samples(elapsed, levels)
 }

@@ -30,4 +30,4 @@ pinBy false reset = not reset
 -- The answer byte: own SDA, the RESET pin, write cycle running (What goes in and what comes out).
 unfoldable pub answerOf : State → ℕ
 answerOf s =
-    orZero (s .device .talk .own) 1 + orZero (pinBy (kindOf (s .part) .high) (s .timers .reset)) 2 + orZero (writes (s .timers)) 4
+    orZero (s .device .talk .own) 1 + orZero (pinBy (kindOf (s .chip .part) .high) (s .timers .reset)) 2 + orZero (writes (s .timers)) 4

@@ -4,13 +4,12 @@ use mathlib.Core.Bool.{Bool, true, false, _&&_}
 use mathlib.Core.List.{List}
 use Rattle.ground.specs.Numbers.{writeTime}
 use Rattle.ground.specs.Kind.{kindOf}
+use Rattle.part.specs.State.{withTimers, withWire, withDevice, withLoad, withWrite, withWatchdog, withControl, withWel, withRwel}
 use Rattle.part.specs.Timers.{loadedOf, writes, timedOf, suppliedOf}
 use Rattle.part.specs.Page.{emptyLoad, marked, storeOf}
 use Rattle.part.specs.declared.state.Timers.{Timers}
-use Rattle.part.specs.declared.state.Watchdog.{Watchdog}
 use Rattle.part.specs.declared.state.Wire.{Wire}
 use Rattle.part.specs.declared.state.Control.{Control}
-use Rattle.part.specs.declared.state.Device.{Device}
 use Rattle.part.specs.declared.state.Load.{Load}
 use Rattle.part.specs.declared.state.Place.{Place}
 use Rattle.part.specs.declared.state.State.{State}
@@ -18,92 +17,62 @@ use Rattle.wire.specs.Sign.{cleanFrame, signOf, wireOf}
 use Rattle.wire.specs.declared.Sign.{Sign}
 use Rattle.wire.specs.declared.Sign.the-variants.{Quiet, Start, Stop, Bit, Byte, Ninth}
 use Rattle.control.specs.Register.{orderOf, takesTime}
-use Rattle.device.specs.Talk.{withControl}
+use Rattle.control.specs.declared.Order.{Order}
 use Rattle.device.specs.Bytes.{byteOf, keptOf, bitOf, ninthOf}
 use Rattle.device.specs.Ends.{startedOf, stoppedOf, endedOf}
 use Rattle.sample.specs.Level.{sclOf, sdaOf, wpOf, vccOf}
 
--- The state with another wire.
-abbrev pub withWire : State → Wire → State
-withWire s w = record { part = s .part; select = s .select; timers = s .timers; wire = w; device = s .device; load = s .load }
-
--- The state with another device.
-abbrev pub withDevice : State → Device → State
-withDevice s d = record { part = s .part; select = s .select; timers = s .timers; wire = s .wire; device = d; load = s .load }
-
--- The timers with the watchdog loaded (State and time, every start).
-abbrev pub watched : Watchdog → Timers → Timers
-watched w t = record { write = t .write; hold = t .hold; reset = t .reset; low = t .low; watchdog = w }
-
 -- The timers with a write cycle begun, or as they were (Bytes on the wire, stop; Control register, RWEL high).
 abbrev pub begun : Bool → Timers → Timers
-begun true t = record { write = writeTime; hold = t .hold; reset = t .reset; low = t .low; watchdog = t .watchdog }
+begun true t = withWrite t writeTime
 begun false t = t
 
 -- Low VCC clears both latches (State and time, 2).
 abbrev pub latchedBy : Bool → Control → Control
 latchedBy true c = c
-latchedBy false c = record { stored = c .stored; wel = false; rwel = false; chosen = c .chosen; pending = c .pending; value = c .value }
+latchedBy false c = withRwel (withWel c false) false
 
 -- Rules 1 and 2: time passes, the supply is judged (State and time, 1 and 2).
 unfoldable pub opensOf : ℕ → ℕ → State → State
 opensOf e level s =
-    record {
-      part = s .part;
-      select = s .select;
-      timers = suppliedOf (vccOf level) (timedOf (s .device .control .stored) e (s .timers));
-      wire = s .wire;
-      device = withControl (s .device) (latchedBy (vccOf level) (s .device .control));
-      load = s .load;
-    }
+    withDevice
+    (withTimers s (suppliedOf (vccOf level) (timedOf (s .device .control .stored) e (s .timers))))
+    (withControl (s .device) (latchedBy (vccOf level) (s .device .control)))
 
--- Rule 3: while reset is active talk ends and the outside levels are only remembered (State and time, 3).
+-- The outside levels as a wire with no bit taken (State and time, 3).
+abbrev pub outsideOf : ℕ → Wire
+outsideOf level = record { lines = record { scl = sclOf level; sda = sdaOf level }; frame = cleanFrame }
+
+-- Rule 3: while reset is active talk ends, the load is dropped, and the outside levels are only remembered (State and time, 3).
 unfoldable pub resetOf : ℕ → State → State
-resetOf level s =
-    record {
-      part = s .part;
-      select = s .select;
-      timers = s .timers;
-      wire = record { lines = record { scl = sclOf level; sda = sdaOf level }; frame = cleanFrame };
-      device = endedOf (s .device);
-      load = emptyLoad;
-    }
+resetOf level s = withLoad (withDevice (withWire s (outsideOf level)) (endedOf (s .device))) emptyLoad
 
 -- A start: the watchdog is loaded, the load dropped, the device told whether a write runs (State and time, every start).
 unfoldable pub startOf : State → State
 startOf s =
-    record {
-      part = s .part;
-      select = s .select;
-      timers = watched (loadedOf (s .device .control .stored)) (s .timers);
-      wire = s .wire;
-      device = startedOf (writes (s .timers)) (s .device);
-      load = emptyLoad;
-    }
+    withLoad
+    (withDevice
+    (withTimers s (withWatchdog (s .timers) (loadedOf (s .device .control .stored))))
+    (startedOf (writes (s .timers)) (s .device)))
+    emptyLoad
 
--- A stop: its work is done, then the load is dropped and the part is idle (Bytes on the wire, stop and any stop).
+-- A stop that carries out an order: its work is done, then the load is dropped and the part is idle (Bytes on the wire, stop and any stop).
+abbrev pub stopBy : Order → State → State
+stopBy order s =
+    withLoad
+    (withDevice (withTimers s (begun (takesTime order) (begun (marked (s .load)) (s .timers)))) (stoppedOf order (s .device)))
+    emptyLoad
+
+-- A stop, with WP as its sample has it (Bytes on the wire, stop; Control register, at a stop).
 unfoldable pub stopOf : Bool → State → State
-stopOf wp s =
-    record {
-      part = s .part;
-      select = s .select;
-      timers = begun (takesTime (orderOf wp (s .device .control))) (begun (marked (s .load)) (s .timers));
-      wire = s .wire;
-      device = stoppedOf wp (s .device);
-      load = emptyLoad;
-    }
+stopOf wp s = stopBy (orderOf wp (s .device .control)) s
 
 -- A byte changes the device and the load (Bytes on the wire).
 unfoldable pub byteStep : ℕ → State → State
 byteStep v s =
-    record {
-      part = s .part;
-      select = s .select;
-      timers = s .timers;
-      wire = s .wire;
-      device = byteOf (kindOf (s .part)) (s .select) (s .device) v;
-      load = keptOf (kindOf (s .part)) (s .device) v (s .load);
-    }
+    withLoad
+    (withDevice s (byteOf (kindOf (s .chip .part)) (s .chip .select) (s .device) v))
+    (keptOf (kindOf (s .chip .part)) (s .device) v (s .load))
 
 -- What each sign does to the state; the bits before a stop do not matter to it (Bytes on the wire; Control register).
 abbrev pub heardBy : Sign → Bool → List ℕ → State → State
@@ -112,7 +81,7 @@ heardBy Start wp array s = startOf s
 heardBy (Stop n) wp array s = stopOf wp s
 heardBy Bit wp array s = withDevice s (bitOf (s .device))
 heardBy (Byte v) wp array s = byteStep v s
-heardBy (Ninth b) wp array s = withDevice s (ninthOf (kindOf (s .part)) array b (s .device))
+heardBy (Ninth b) wp array s = withDevice s (ninthOf (kindOf (s .chip .part)) array b (s .device))
 
 -- A load goes into the array if any of its marks is set (Bytes on the wire, stop).
 abbrev pub savedBy : Bool → Place → Load → List ℕ → List ℕ
@@ -132,28 +101,43 @@ writtenBy (Ninth b) s array = array
 abbrev pub lineOf : ℕ → State → Bool
 lineOf level s = sdaOf level && s .device .talk .own
 
--- What is seen in a sample, while reset is inactive: the sign of SCL and the SDA line (State and time, 4).
-unfoldable pub seenOf : ℕ → State → Sign
-seenOf level s = signOf (s .wire) (sclOf level) (lineOf level s)
+-- The sign of SCL and the SDA line (State and time, 4).
+unfoldable pub signIn : ℕ → State → Sign
+signIn level s = signOf (s .wire) (sclOf level) (lineOf level s)
 
 -- The state with the wire after the sample (State and time, 4).
 unfoldable pub wiredOf : ℕ → State → State
 wiredOf level s = withWire s (wireOf (s .wire) (sclOf level) (lineOf level s))
 
--- Rules 3 and 4 by whether reset is active (State and time, 3 and 4).
-abbrev pub goesOnBy : Bool → ℕ → List ℕ → State → State
-goesOnBy true level array s = resetOf level s
-goesOnBy false level array s = heardBy (seenOf level s) (wpOf level) array (wiredOf level s)
+-- What a sample shows the part: nothing while reset is active, else a sign (State and time, 3 and 4).
+pub data Seen : Type 0 where
+  unseen : Seen
+  sees : Sign → Seen
+
+-- By whether reset is active (State and time, 3 and 4).
+abbrev pub seenBy : Bool → Sign → Seen
+seenBy true sign = unseen
+seenBy false sign = sees sign
+
+-- What is seen in a sample, once time has passed and the supply is judged. The state, the array, what is being sent, which write covers an
+-- address and the list of transfers all go by it (State and time, 3 and 4).
+unfoldable pub seenOf : ℕ → State → Seen
+seenOf level s = seenBy (s .timers .reset) (signIn level s)
+
+-- Rules 3 and 4 for the state, by what is seen (State and time, 3 and 4).
+abbrev pub goesOnBy : Seen → ℕ → List ℕ → State → State
+goesOnBy unseen level array s = resetOf level s
+goesOnBy (sees sign) level array s = heardBy sign (wpOf level) array (wiredOf level s)
 
 -- The state after one sample (State and time, each sample).
 unfoldable pub stepOf : ℕ → ℕ → List ℕ → State → State
-stepOf e level array s = goesOnBy (opensOf e level s .timers .reset) level array (opensOf e level s)
+stepOf e level array s = goesOnBy (seenOf level (opensOf e level s)) level array (opensOf e level s)
 
--- The array by whether reset is active (State and time, 3 and 4).
-abbrev pub keepsBy : Bool → ℕ → List ℕ → State → List ℕ
-keepsBy true level array s = array
-keepsBy false level array s = writtenBy (seenOf level s) (wiredOf level s) array
+-- Rules 3 and 4 for the array, by what is seen (State and time, 3 and 4).
+abbrev pub keepsBy : Seen → ℕ → List ℕ → State → List ℕ
+keepsBy unseen level array s = array
+keepsBy (sees sign) level array s = writtenBy sign (wiredOf level s) array
 
 -- The array after one sample (Bytes on the wire, stop).
 unfoldable pub arrayOf : ℕ → ℕ → List ℕ → State → List ℕ
-arrayOf e level array s = keepsBy (opensOf e level s .timers .reset) level array (opensOf e level s)
+arrayOf e level array s = keepsBy (seenOf level (opensOf e level s)) level array (opensOf e level s)

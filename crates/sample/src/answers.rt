@@ -55,7 +55,8 @@ pub fn answer(s: State) -> u8
     let timers = s.timers;
     let device = s.device;
     let talk = device.talk;
-    let kind = kinds::kind_of(s.part);
+    let chip = s.chip;
+    let kind = kinds::kind_of(chip.part);
     let own = cases::worth(talk.own, 1);
     let reset = cases::worth(pin(kind.high, timers.reset), 2);
     let writes = cases::worth(0 < timers.write, 4);

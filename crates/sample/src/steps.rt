@@ -109,15 +109,16 @@ fn save(array: &mut [u8], place: Place, load: Load) -> bool
     false
 }
 
-fn stop(s: State, wp: bool, array: &mut [u8]) -> State
-    ensures { λ r. ⌜ Hears (Sign.Stop 0) wp s (now (array .entry)) r (now (array .exit)) ⌝ }
+// A stop, whatever bits were committed before it.
+fn stop(s: State, bits: u8, wp: bool, array: &mut [u8]) -> State
+    ensures { λ r. ⌜ Hears (Sign.Stop bits) wp s (now (array .entry)) r (now (array .exit)) ⌝ }
 {
     let device = s.device;
-    let control = device.control;
+    let order = control::order_of(wp, device.control);
     let saved = save(array, device.counter, s.load);
     let timed = began(saved, s.timers);
-    let times = began(control::commits(wp, control), timed);
-    let stopped = ends::stop(wp, device);
+    let times = began(control::takes_time(order), timed);
+    let stopped = ends::stop(order, device);
     let load = page::empty();
     let mut next = s;
     next.timers = times;
@@ -129,12 +130,20 @@ fn stop(s: State, wp: bool, array: &mut [u8]) -> State
 fn byte(s: State, v: u8) -> State
     ensures { λ r. ⌜ r ≡ byteStep v s ⌝ }
 {
-    let kind = kinds::kind_of(s.part);
-    let device = bytes::byte(kind, s.select, s.device, v);
-    let load = bytes::kept(kind, s.device, v, s.load);
+    let chip = s.chip;
+    let kind = kinds::kind_of(chip.part);
+    let before = s.device;
     let mut next = s;
+    if bytes::expects_data(before) {
+        let takes = bytes::taken(kind, before);
+        let device = bytes::data(takes, before);
+        let load = bytes::kept(takes, before, v, s.load);
+        next.device = device;
+        next.load = load;
+        return next;
+    }
+    let device = bytes::byte(kind, chip.select, before, v);
     next.device = device;
-    next.load = load;
     next
 }
 
@@ -145,7 +154,7 @@ fn hear(s: State, sign: Sign, wp: bool, array: &mut [u8]) -> State
     match sign {
         Sign::Quiet => s,
         Sign::Start => start(s),
-        Sign::Stop(_) => stop(s, wp, array),
+        Sign::Stop(bits) => stop(s, bits, wp, array),
         Sign::Bit => {
             let device = bits::bit(s.device);
             let mut next = s;
@@ -154,7 +163,8 @@ fn hear(s: State, sign: Sign, wp: bool, array: &mut [u8]) -> State
         }
         Sign::Byte(v) => byte(s, v),
         Sign::Ninth(b) => {
-            let kind = kinds::kind_of(s.part);
+            let chip = s.chip;
+            let kind = kinds::kind_of(chip.part);
             let device = bits::ninth(kind, array, b, s.device);
             let mut next = s;
             next.device = device;

@@ -16,8 +16,7 @@ use Rattle.twin.specs.declared.power.Size.the-variants.{Bytes, Unknown}
 unfoldable pub poweredUp : ℕ → ℕ → ℕ → State
 poweredUp part select stored =
     record {
-      part = part;
-      select = select;
+      chip = record { part = part; select = select };
       timers = record { write = 0; hold = resetHold; reset = true; low = true; watchdog = off };
       wire = record { lines = record { scl = true; sda = true }; frame = cleanFrame };
       device =

@@ -3,6 +3,7 @@ use crate::replays::Replayed;
 use ground::Reply;
 use ground::kinds;
 use part::page;
+use part::state::Chip;
 use part::state::Control;
 use part::state::Device;
 use part::state::Lines;
@@ -29,8 +30,7 @@ fn powered_up(part: u16, select: u8, stored: u8) -> State
     ensures { λ r. ⌜ r ≡ poweredUp part select stored ⌝ }
 {
     State {
-        part,
-        select,
+        chip: Chip { part, select },
         timers: Timers {
             write: 0,
             hold: timers::RESET_HOLD,

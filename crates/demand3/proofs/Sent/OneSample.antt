@@ -21,11 +21,12 @@ use Rattle.part.specs.declared.state.Wire.{Wire}
 use Rattle.wire.specs.Sign.{allButOne, fallSignBy, fallSign, fallFrameBy, fallFrame, signBy, frameBy, signOf, wireOf}
 use Rattle.wire.specs.declared.Sign.{Sign}
 use Rattle.wire.specs.declared.Sign.the-variants.{Quiet, Start, Stop, Bit, Byte, Ninth}
-use Rattle.device.specs.Talk.{withTalk, withControl, sending}
+use Rattle.part.specs.State.{withControl, withDevice, withTalk}
+use Rattle.device.specs.Talk.{sending}
 use Rattle.device.specs.Bytes.{byteOf, keptOf, bitOf, fetch, ninthIn, ninthOf}
 use Rattle.device.specs.Ends.{startedOf, stoppedOf, endedOf}
 use Rattle.sample.specs.Level.{sclOf, wpOf}
-use Rattle.sample.specs.Sample.{withDevice, opensOf, resetOf, startOf, stopOf, byteStep, heardBy, lineOf, seenOf, wiredOf, goesOnBy, stepOf}
+use Rattle.sample.specs.Sample.{opensOf, resetOf, startOf, stopOf, byteStep, heardBy, lineOf, seenOf, wiredOf, goesOnBy, stepOf}
 use Rattle.sample.specs.Run.{Part}
 use Rattle.demand3.specs.Sending.{Sent, nothing, sends, sendsArray, fetchedBy, nextSent, sentBy, heardSent, sentOf, bitFrom}
 use Rattle.demand3.specs.Differ.{elsewhere, EqualBut}
@@ -161,7 +162,7 @@ module _ {a : ℕ} {xs ys : List ℕ} (but : EqualBut a xs ys) where
   heard-equal (Stop k) wp c m n g i e = equal refl refl refl
   heard-equal Bit wp c m n g i e = equal refl refl (next-elsewhere a g e)
   heard-equal (Byte v) wp c m n g i e = equal refl refl refl
-  heard-equal (Ninth b) wp c m n g i e = ninth-beside (c .device .talk .phase) b c (kindOf (c .part)) m i
+  heard-equal (Ninth b) wp c m n g i e = ninth-beside (c .device .talk .phase) b c (kindOf (c .chip .part)) m i
 
   -- Equal states are beside each other after rule 3 or 4.
   goes-equal : (r : Bool) (e level : ℕ) (s : State) (g : Sent) → elsewhere a g ≡ true
@@ -220,7 +221,7 @@ module _ {a : ℕ} {xs ys : List ℕ} (but : EqualBut a xs ys)
       }
   heard-apart (Byte x) wp c m i = equal refl refl refl
   heard-apart (Ninth true) wp c m i = equal refl refl refl
-  heard-apart (Ninth false) wp c m i = fetches but c (kindOf (c .part)) i
+  heard-apart (Ninth false) wp c m i = fetches but c (kindOf (c .chip .part)) i
 
   -- They are after rule 3 or 4.
   goes-apart : (r : Bool) (e level : ℕ) (s : State) → s .wire .frame .bits ≡ n

@@ -88,7 +88,7 @@ module _ {a : ℕ} {s t : State} {g h : Sent} where
   beside-answers (apart c) =
       let b : Bool = bitFrom (c .bit) (c .one) in
       let d : Bool = bitFrom (c .bit) (c .other) in
-      let r : Bool = pinBy (kindOf (c .base .part) .high) (c .base .timers .reset) in
+      let r : Bool = pinBy (kindOf (c .base .chip .part) .high) (c .base .timers .reset) in
       (rw (c .here, c .there) (told-differ b d r (writes (c .base .timers)) (sameBit b d) refl)) ∙ sym (both-reach c)
 
   -- Where they reach one, they differ in the SDA bit alone.
@@ -98,7 +98,7 @@ module _ {a : ℕ} {s t : State} {g h : Sent} where
   beside-line (apart c) x =
       let b : Bool = bitFrom (c .bit) (c .one) in
       let d : Bool = bitFrom (c .bit) (c .other) in
-      let r : Bool = pinBy (kindOf (c .base .part) .high) (c .base .timers .reset) in
+      let r : Bool = pinBy (kindOf (c .base .chip .part) .high) (c .base .timers .reset) in
       let w : Bool = writes (c .base .timers) in
       let u = not-true (sameBit b d) (sym (both-reach c) ∙ x) in
       let same = told-parts b r w .1 ∙ sym (told-parts d r w .1) in

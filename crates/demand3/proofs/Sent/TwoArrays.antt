@@ -23,7 +23,7 @@ use Rattle.ground.proofs.Tests.{and-split}
 use Rattle.part.proofs.Store.{store-length, store-at}
 use Rattle.wire.specs.declared.Sign.{Sign}
 use Rattle.wire.specs.declared.Sign.the-variants.{Quiet, Start, Stop, Bit, Byte, Ninth}
-use Rattle.device.specs.Bytes.{takenOf, keptBy, keptIn, keptOf}
+use Rattle.device.specs.Bytes.{takenOf, keptBy, expectsData, keptOf}
 use Rattle.sample.specs.Level.{wpOf}
 use Rattle.sample.specs.Sample.{opensOf, resetOf, startOf, stopOf, byteStep, heardBy, savedBy, writtenBy, seenOf, wiredOf, goesOnBy, stepOf, keepsBy, arrayOf}
 use Rattle.demand3.specs.Differ.{coversBy, covers, EqualBut, FullLoad, silenced}
@@ -167,7 +167,7 @@ taken-load P false d v l f g = f
 
 -- So it holds after a byte, whatever the phase.
 kept-load : (P : Load → Type 0) (p : Phase) (k : Kind) (d : Device) (v : ℕ) (l : Load) → P l
-    → P (filledOf l (d .counter) v) → P (keptIn p k d v l)
+    → P (filledOf l (d .counter) v) → P (keptBy (expectsData p && takenOf k d) d v l)
 kept-load P Idle k d v l f g = f
 kept-load P Silent k d v l f g = f
 kept-load P Slave k d v l f g = f
@@ -191,8 +191,8 @@ heard-whole (Byte v) wp xs s w =
     let b = length-set (s .load .bytes) i v ∙ w .bytes in
     let m = length-set (s .load .marks) i true ∙ w .marks in
     record {
-      bytes = kept-load (λ l. length (l .bytes) ≡ pageSize) p (kindOf (s .part)) (s .device) v (s .load) (w .bytes) b;
-      marks = kept-load (λ l. length (l .marks) ≡ pageSize) p (kindOf (s .part)) (s .device) v (s .load) (w .marks) m;
+      bytes = kept-load (λ l. length (l .bytes) ≡ pageSize) p (kindOf (s .chip .part)) (s .device) v (s .load) (w .bytes) b;
+      marks = kept-load (λ l. length (l .marks) ≡ pageSize) p (kindOf (s .chip .part)) (s .device) v (s .load) (w .marks) m;
     }
 heard-whole (Ninth b) wp xs s w = record { bytes = w .bytes; marks = w .marks }
 

@@ -1,7 +1,7 @@
 -- What the three falls that commit a bit keep of a device and its load: a bit, an eighth fall, a ninth, each by phase.
 -- Assumes nothing.
 use Prim.Native.Nat.{ℕ, _*_, _%_, _<_}
-use mathlib.Core.Bool.{Bool, true, false, not, true≢false}
+use mathlib.Core.Bool.{Bool, true, false, not, true≢false, _&&_}
 use mathlib.Core.List.{List}
 use mathlib.Core.Path.{_≡_, refl, _∙_}
 use native.Mathlib.Omega.{arith}
@@ -22,8 +22,9 @@ use Rattle.part.specs.declared.state.Place.{Place}
 use Rattle.ground.proofs.Tests.{and-split}
 use Rattle.part.proofs.Places.{page-stays, lock-of-page}
 use Rattle.control.specs.Register.{readsOf}
-use Rattle.device.specs.Talk.{withTalk, withChosen, acknowledged, rested, sending, released, addressOf, matches}
-use Rattle.device.specs.Bytes.{slaveBy, slaveOf, highOf, addressBy, lowOf, takenOf, dataBy, registerBy, byteIn, byteOf, keptBy, keptIn, keptOf, bitIn, bitOf, answeredBy, ninthIn, ninthOf}
+use Rattle.part.specs.State.{withChosen, withTalk}
+use Rattle.device.specs.Talk.{acknowledged, rested, sending, released, addressOf, matches}
+use Rattle.device.specs.Bytes.{slaveBy, slaveOf, highOf, addressBy, lowOf, takenOf, dataBy, registerBy, byteIn, byteOf, keptBy, expectsData, keptOf, bitIn, bitOf, answeredBy, ninthIn, ninthOf}
 use Rattle.reachable.specs.Reachable.{waits, speaks}
 use Rattle.reachable.proofs.Kept.Talks.{Voice, rests, answers, sends, Pends, Talks, still, voice-stays, voice-released, whole-filled}
 
@@ -177,7 +178,7 @@ module _ (k : Kind) (n m : ℕ) (d : Device) (l : Load) (g : Talks k n d l) wher
 
   -- A byte, by phase.
   byte-in : (p : Phase) (s v : ℕ) → d .talk .phase ≡ p → n < mostBits → m ≡ mostBits
-      → Talks k m (byteIn p k s d v) (keptIn p k d v l)
+      → Talks k m (byteIn p k s d v) (keptBy (expectsData p && takenOf k d) d v l)
   unfolding slaveOf highOf lowOf
   byte-in Idle s v e b z = stayed (cc) (λ x. absurd (omega arith))
   byte-in Silent s v e b z = stayed (cc) (λ x. absurd (omega arith))

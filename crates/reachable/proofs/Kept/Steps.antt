@@ -16,24 +16,24 @@ use Rattle.part.specs.declared.state.State.{State}
 use Rattle.wire.specs.Sign.{wireOf}
 use Rattle.wire.specs.declared.Sign.{Sign}
 use Rattle.wire.specs.declared.Sign.the-variants.{Quiet, Start, Stop, Bit, Byte, Ninth}
-use Rattle.device.specs.Talk.{withControl}
+use Rattle.part.specs.State.{withControl, withWire}
 use Rattle.device.specs.Bytes.{byteOf, keptOf, bitOf, ninthOf}
 use Rattle.device.specs.Ends.{startedOf, dropped, stoppedOf, endedOf}
 use Rattle.sample.specs.Level.{sclOf, sdaOf, wpOf, vccOf}
-use Rattle.sample.specs.Sample.{withWire, latchedBy, opensOf, resetOf, startOf, stopOf, byteStep, heardBy, lineOf, seenOf, wiredOf, goesOnBy, stepOf}
+use Rattle.sample.specs.Sample.{latchedBy, opensOf, resetOf, startOf, stopOf, byteStep, heardBy, lineOf, seenOf, wiredOf, goesOnBy, stepOf}
 use Rattle.ranges.proofs.Signs.{Saw, saw}
 use Rattle.reachable.proofs.Kept.Talks.{Talks, fresh, start-talks, stop-talks}
 use Rattle.reachable.proofs.Kept.Falls.{bit-talks, byte-talks, ninth-talks}
 
 -- All that is kept beside the ranges, together.
 pub record Sits (s : State) : Type 0 where
-  pub talks : Talks (kindOf (s .part)) (s .wire .frame .bits) (s .device) (s .load)
+  pub talks : Talks (kindOf (s .chip .part)) (s .wire .frame .bits) (s .device) (s .load)
   pub line : s .device .talk .own ≡ false → s .wire .lines .scl ≡ true → s .wire .lines .sda ≡ false
 
 -- A fall of SCL keeps it where its device and load do.
 fallen : (s : State) (w : Wire) (d : Device) (l : Load) → w .lines .scl ≡ false
-    → Talks (kindOf (s .part)) (w .frame .bits) d l
-    → Sits (record { part = s .part; select = s .select; timers = s .timers; wire = w; device = d; load = l })
+    → Talks (kindOf (s .chip .part)) (w .frame .bits) d l
+    → Sits (record { part = s .chip .part; select = s .chip .select; timers = s .timers; wire = w; device = d; load = l })
 fallen s w d l c t = record { talks = t; line = λ x y. cc }
 
 -- Each sign keeps it, on a wire as the sign says and with own SDA low seen on it.
@@ -46,26 +46,26 @@ heard-sits Quiet wp array s w e h g =
 heard-sits Start wp array s w e h g =
     record {
       talks =
-          start-talks (kindOf (s .part)) (s .wire .frame .bits) (w .frame .bits) (s .device) (s .load) (g .talks)
+          start-talks (kindOf (s .chip .part)) (s .wire .frame .bits) (w .frame .bits) (s .device) (s .load) (g .talks)
           (writes (s .timers));
       line = λ x y. cc;
     }
 heard-sits (Stop n) wp array s w e h g =
     record {
-      talks = stop-talks (kindOf (s .part)) (s .wire .frame .bits) (w .frame .bits) (s .device) (s .load) (g .talks) wp;
+      talks = stop-talks (kindOf (s .chip .part)) (s .wire .frame .bits) (w .frame .bits) (s .device) (s .load) (g .talks) wp;
       line = λ x y. cc;
     }
 heard-sits Bit wp array s w e h g =
     fallen s w (bitOf (s .device)) (s .load) (e .2)
-    (bit-talks (kindOf (s .part)) (s .wire .frame .bits) (w .frame .bits) (s .device) (s .load) (g .talks) (e .1) (e .0))
+    (bit-talks (kindOf (s .chip .part)) (s .wire .frame .bits) (w .frame .bits) (s .device) (s .load) (g .talks) (e .1) (e .0))
 heard-sits (Byte v) wp array s w e h g =
-    fallen s w (byteOf (kindOf (s .part)) (s .select) (s .device) v) (keptOf (kindOf (s .part)) (s .device) v (s .load))
+    fallen s w (byteOf (kindOf (s .chip .part)) (s .chip .select) (s .device) v) (keptOf (kindOf (s .chip .part)) (s .device) v (s .load))
     (e .2)
-    (byte-talks (kindOf (s .part)) (s .wire .frame .bits) (w .frame .bits) (s .device) (s .load) (g .talks) (s .select) v
+    (byte-talks (kindOf (s .chip .part)) (s .wire .frame .bits) (w .frame .bits) (s .device) (s .load) (g .talks) (s .chip .select) v
     (e .1) (e .0))
 heard-sits (Ninth b) wp array s w e h g =
-    fallen s w (ninthOf (kindOf (s .part)) array b (s .device)) (s .load) (e .1)
-    (ninth-talks (kindOf (s .part)) (s .wire .frame .bits) (w .frame .bits) (s .device) (s .load) (g .talks) b array
+    fallen s w (ninthOf (kindOf (s .chip .part)) array b (s .device)) (s .load) (e .1)
+    (ninth-talks (kindOf (s .chip .part)) (s .wire .frame .bits) (w .frame .bits) (s .device) (s .load) (g .talks) b array
     (omega arith))
 
 -- Own SDA low is low on the line.
@@ -85,8 +85,8 @@ wired-sits level array s g =
 abbrev opened : Bool → Timers → State → State
 opened v t s =
     record {
-      part = s .part;
-      select = s .select;
+      part = s .chip .part;
+      select = s .chip .select;
       timers = suppliedOf v t;
       wire = s .wire;
       device = withControl (s .device) (latchedBy v (s .device .control));
@@ -100,7 +100,7 @@ unfolding suppliedOf resetOf endedOf
 opened-sits true v t level array s e g =
     record {
       talks =
-          fresh (kindOf (s .part)) 0 Idle (s .device .counter) (dropped (latchedBy v (s .device .control))) refl (λ x. cc)
+          fresh (kindOf (s .chip .part)) 0 Idle (s .device .counter) (dropped (latchedBy v (s .device .control))) refl (λ x. cc)
           refl refl;
       line = λ x y. cc;
     }

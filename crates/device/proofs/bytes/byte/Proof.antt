@@ -31,6 +31,9 @@ low-requires c κs = search needs
 enum-told-6 : tie.Need-enum-told-6
 enum-told-6 c = search needs
 
+taken-requires : tie.Need-taken-requires
+taken-requires c κs = search needs
+
 data-requires : tie.Need-data-requires
 data-requires c κs = search needs
 
@@ -74,7 +77,7 @@ returns-5 c = rw (c .low .ensures, c .before .enum-told5 .given .1)
 
 returns-6 : tie.Need-returns-6
 unfolding byteOf
-returns-6 c = rw (c .«data» .ensures, c .before .enum-told6 .given .1)
+returns-6 c = rw (c .«data» .ensures, c .before .taken .ensures, c .before .before .enum-told6 .given .1)
 
 returns-7 : tie.Need-returns-7
 unfolding byteOf
@@ -101,6 +104,7 @@ byte-spec =
     enum-told-5
     low-requires
     enum-told-6
+    taken-requires
     data-requires
     enum-told-7
     register-requires

@@ -4,9 +4,6 @@ use borrow.Author.Needs.{needs}
 use Rattle.device.proofs.ends.stop.Statement.{statement}
 use Rattle.device.proofs.ends.stop.Tie as tie
 
-order-of-requires : tie.Need-order-of-requires
-order-of-requires c κs = search needs
-
 carry-out-requires : tie.Need-carry-out-requires
 carry-out-requires c κs = search needs
 
@@ -19,9 +16,9 @@ drop-all-requires c κs = search needs
 returns : tie.Need-returns
 unfolding stoppedOf
 returns c =
-    rw (c .drop-all .ensures, c .before .rest .ensures, c .before .before .carry-out .ensures, c .before .before .before .order-of .ensures)
+    rw (c .drop-all .ensures, c .before .rest .ensures, c .before .before .carry-out .ensures)
 
 pub stop-spec : {M : Type 1} → statement M
 stop-spec =
     tie.close
-    (tie.spec order-of-requires carry-out-requires rest-requires drop-all-requires returns)
+    (tie.spec carry-out-requires rest-requires drop-all-requires returns)

@@ -21,7 +21,7 @@ abbrev Inv-loop : tie.InvT-loop
 Inv-loop s elapsed levels array row₀ from control kind dog base calm₀ write₀ running₀ left₀ all₀ room₀ scl₀ sda₀ held₀ bit₀ bits₀ shift₀ phase₀ high₀ out₀ own₀ place₀ load₀ i₀ row calm write running left all room scl sda held bit bits shift phase high out own place load i =
     Stands s elapsed levels array row₀ from base calm write running left all room (wireAt scl sda (frameOf held bit bits shift)) (talkOf phase high out own) place load row i
     × (control ≡ s .device .control)
-    × (kind ≡ kindOf (s .part))
+    × (kind ≡ kindOf (s .chip .part))
     × (dog ≡ loadedOf (s .device .control .stored))
 
 abbrev μ-loop : tie.MeasureT-loop

@@ -19,7 +19,7 @@ abbrev Inv-loop : tie.InvT-loop
 Inv-loop s elapsed levels array row₀ from kind write₀ lines₀ i₀ row write lines i =
     (length elapsed ≡ length levels)
     × (length row₀ ≡ length levels)
-    × (kind ≡ kindOf (s .part))
+    × (kind ≡ kindOf (s .chip .part))
     × Goes elapsed levels from (partOf s array) row₀ i (partOf (withLines s write lines) array) row
 
 abbrev μ-loop : tie.MeasureT-loop
@@ -82,7 +82,7 @@ loop-again c =
     let dark = c .before .before .before .before .before .before .before .before .before .before .before .before .before .before .before .before .before .before .before .pre .1 .1 .1 in
     let v = sym (c .before .before .before .before .before .before .before .vcc .ensures) ∙ c .before .before .before .before .before .before .if1 .left in
     let said = c .said .ensures ∙ ap (λ (n : ℕ). 1 + n) (c .before .base-of .ensures .0) in
-    (at .inv .0, at .inv .1, at .inv .2, rw (add-one, c .before .before .sda .ensures, c .before .before .before .scl .ensures, c .before .before .before .before .less .ensures) (goes-on _ _ _ _ _ _ _ _ (at .inv .3) _ _ (at .inv .0) (at .inv .1) (c .before .before .before .before .before .before .before .before .before .loop-test .taken) (dark-turn s dark _ _ _ (at .lines) _ v) (said ∙ ap (λ (k : Kind). 1 + baseOf (k .high) true (c .before .before .before .before .less .result)) (at .inv .2) ∙ ap (λ (n : ℕ). 1 + baseOf (kindOf (s .part) .high) true n) (c .before .before .before .before .less .ensures) ∙ sym (dark-said s dark _ _))))
+    (at .inv .0, at .inv .1, at .inv .2, rw (add-one, c .before .before .sda .ensures, c .before .before .before .scl .ensures, c .before .before .before .before .less .ensures) (goes-on _ _ _ _ _ _ _ _ (at .inv .3) _ _ (at .inv .0) (at .inv .1) (c .before .before .before .before .before .before .before .before .before .loop-test .taken) (dark-turn s dark _ _ _ (at .lines) _ v) (said ∙ ap (λ (k : Kind). 1 + baseOf (k .high) true (c .before .before .before .before .less .result)) (at .inv .2) ∙ ap (λ (n : ℕ). 1 + baseOf (kindOf (s .chip .part) .high) true n) (c .before .before .before .before .less .ensures) ∙ sym (dark-said s dark _ _))))
 
 stop-at-requires : tie.Need-stop-at-requires Inv-loop μ-loop
 stop-at-requires c κs = search needs

@@ -1,5 +1,6 @@
 -- `refusals::verdicts::judge` meets its contract.
 use borrow.Author.Tests.{eq-eqb, ne-eqb, le-leb, lt-leb}
+use Rattle.ground.proofs.Tests.{not-held, not-failed}
 use Rattle.ground.specs.Verdict.{meant}
 use Rattle.refusals.specs.Refusals.{judgedOf}
 use borrow.Author.Needs.{needs}
@@ -12,40 +13,41 @@ kind-of-requires c κs = search needs
 in-range-requires : tie.Need-in-range-requires
 in-range-requires c κs = search needs
 
-cast-if2 : tie.Need-cast-if2
-cast-if2 c = search needs
-
 returns : tie.Need-returns
 unfolding meant judgedOf
 returns c =
-    rw (← c .before .before .before .in-range .ensures, c .before .before .if1 .taken, ← c .before .before .before .before .kind-of .ensures, ne-eqb _ _ (c .if2 .taken))
+    rw (← c .before .in-range .ensures, not-held (c .before .in-range .result) (c .if1 .taken))
+
+cast-if2 : tie.Need-cast-if2
+cast-if2 c = search needs
 
 returns-2 : tie.Need-returns-2
 unfolding meant judgedOf
 returns-2 c =
-    rw (← c .before .before .before .before .in-range .ensures, c .before .before .before .if1 .taken, ← c .before .before .before .before .before .kind-of .ensures, eq-eqb _ _ (c .before .if2 .left), ne-eqb _ _ (c .if3 .taken))
+    rw (← c .before .before .before .in-range .ensures, not-failed (c .before .before .before .in-range .result) (c .before .before .if1 .left), ← c .before .before .before .before .kind-of .ensures, ne-eqb _ _ (c .if2 .taken))
 
 returns-3 : tie.Need-returns-3
 unfolding meant judgedOf
 returns-3 c =
-    rw (← c .before .before .before .before .before .in-range .ensures, c .before .before .before .before .if1 .taken, ← c .before .before .before .before .before .before .kind-of .ensures, eq-eqb _ _ (c .before .before .if2 .left), eq-eqb _ _ (c .before .if3 .left), lt-leb _ _ (c .if4 .taken))
+    rw (← c .before .before .before .before .in-range .ensures, not-failed (c .before .before .before .before .in-range .result) (c .before .before .before .if1 .left), ← c .before .before .before .before .before .kind-of .ensures, eq-eqb _ _ (c .before .if2 .left), ne-eqb _ _ (c .if3 .taken))
 
 returns-4 : tie.Need-returns-4
 unfolding meant judgedOf
 returns-4 c =
-    rw (← c .before .before .before .before .before .before .in-range .ensures, c .before .before .before .before .before .if1 .taken, ← c .before .before .before .before .before .before .before .kind-of .ensures, eq-eqb _ _ (c .before .before .before .if2 .left), eq-eqb _ _ (c .before .before .if3 .left), le-leb _ _ (c .before .if4 .left), ne-eqb _ _ (c .if5 .taken))
+    rw (← c .before .before .before .before .before .in-range .ensures, not-failed (c .before .before .before .before .before .in-range .result) (c .before .before .before .before .if1 .left), ← c .before .before .before .before .before .before .kind-of .ensures, eq-eqb _ _ (c .before .before .if2 .left), eq-eqb _ _ (c .before .if3 .left), lt-leb _ _ (c .if4 .taken))
+
+returns-5 : tie.Need-returns-5
+unfolding meant judgedOf
+returns-5 c =
+    rw (← c .before .before .before .before .before .before .in-range .ensures, not-failed (c .before .before .before .before .before .before .in-range .result) (c .before .before .before .before .before .if1 .left), ← c .before .before .before .before .before .before .before .kind-of .ensures, eq-eqb _ _ (c .before .before .before .if2 .left), eq-eqb _ _ (c .before .before .if3 .left), le-leb _ _ (c .before .if4 .left), ne-eqb _ _ (c .if5 .taken))
 
 samples-requires : tie.Need-samples-requires
 samples-requires c κs = search needs
 
-returns-5 : tie.Need-returns-5
-unfolding judgedOf
-returns-5 c =
-    rw (← c .before .before .before .before .before .before .before .in-range .ensures, c .before .before .before .before .before .before .if1 .taken, ← c .before .before .before .before .before .before .before .before .kind-of .ensures, eq-eqb _ _ (c .before .before .before .before .if2 .left), eq-eqb _ _ (c .before .before .before .if3 .left), le-leb _ _ (c .before .before .if4 .left), eq-eqb _ _ (c .before .if5 .left)) (c .samples .ensures)
-
 returns-6 : tie.Need-returns-6
-unfolding meant judgedOf
-returns-6 c = rw (← c .before .in-range .ensures, c .if1 .left)
+unfolding judgedOf
+returns-6 c =
+    rw (← c .before .before .before .before .before .before .before .in-range .ensures, not-failed (c .before .before .before .before .before .before .before .in-range .result) (c .before .before .before .before .before .before .if1 .left), ← c .before .before .before .before .before .before .before .before .kind-of .ensures, eq-eqb _ _ (c .before .before .before .before .if2 .left), eq-eqb _ _ (c .before .before .before .if3 .left), le-leb _ _ (c .before .before .if4 .left), eq-eqb _ _ (c .before .if5 .left)) (c .samples .ensures)
 
 pub judge-spec : {M : Type 1} → statement M
 judge-spec =
@@ -53,11 +55,11 @@ judge-spec =
     (tie.spec
     kind-of-requires
     in-range-requires
-    cast-if2
     returns
+    cast-if2
     returns-2
     returns-3
     returns-4
-    samples-requires
     returns-5
+    samples-requires
     returns-6)

@@ -1,7 +1,7 @@
 use borrow.Author.Tests.{le-leb, lt-leb}
 use Rattle.ground.specs.Verdict.{meant}
 use Rattle.refusals.specs.Refusals.{powerOf}
-use Rattle.ground.proofs.Tests.{not-zero}
+use Rattle.ground.proofs.Tests.{not-zero, not-held, not-failed}
 use borrow.Author.Needs.{needs}
 use Rattle.refusals.proofs.verdicts.power.Statement.{statement}
 use Rattle.refusals.proofs.verdicts.power.Tie as tie
@@ -32,13 +32,13 @@ is-storable-requires c κs = search needs
 returns-3 : tie.Need-returns-3
 unfolding meant powerOf
 returns-3 c =
-    rw (← c .before .before .before .before .before .kind-of .ensures, not-zero _ (c .before .before .before .if1 .left), le-leb _ _ (c .before .before .if2 .left), ← c .before .is-storable .ensures, c .if3 .taken)
+    rw (← c .before .before .before .before .before .kind-of .ensures, not-zero _ (c .before .before .before .if1 .left), le-leb _ _ (c .before .before .if2 .left), ← c .before .is-storable .ensures, not-held (c .before .is-storable .result) (c .if3 .taken))
 
 -- src/verdicts.rt:17:1
 returns-4 : tie.Need-returns-4
 unfolding meant powerOf
 returns-4 c =
-    rw (← c .before .before .before .before .before .kind-of .ensures, not-zero _ (c .before .before .before .if1 .left), le-leb _ _ (c .before .before .if2 .left), ← c .before .is-storable .ensures, c .if3 .left)
+    rw (← c .before .before .before .before .before .kind-of .ensures, not-zero _ (c .before .before .before .if1 .left), le-leb _ _ (c .before .before .if2 .left), ← c .before .is-storable .ensures, not-failed (c .before .is-storable .result) (c .if3 .left))
 
 pub power-spec : {M : Type 1} → statement M
 power-spec =

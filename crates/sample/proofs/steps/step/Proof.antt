@@ -1,5 +1,5 @@
 -- `sample::steps::step` meets its contract.
-use Rattle.sample.specs.Sample.{seenOf, wiredOf, stepOf, arrayOf}
+use Rattle.sample.specs.Sample.{signIn, seenOf, wiredOf, stepOf, arrayOf}
 use borrow.Author.Needs.{needs}
 use Rattle.sample.proofs.steps.step.Statement.{statement}
 use Rattle.sample.proofs.steps.step.Tie as tie
@@ -11,7 +11,7 @@ in-reset-requires : tie.Need-in-reset-requires
 in-reset-requires c κs = search needs
 
 returns : tie.Need-returns
-unfolding stepOf arrayOf
+unfolding seenOf stepOf arrayOf
 returns c =
     record {
       state = rw (c .in-reset .ensures, ← c .before .before .before .opens .ensures, c .before .if1 .taken);
@@ -37,7 +37,7 @@ same-length : tie.Need-same-length
 same-length c = search needs
 
 returns-2 : tie.Need-returns-2
-unfolding seenOf wiredOf stepOf arrayOf
+unfolding signIn seenOf wiredOf stepOf arrayOf
 returns-2 c =
     record {
       state = rw (c .before .before .hear .ensures .state, c .before .before .before .before .wp .ensures, c .before .before .before .before .before .before .see .ensures, c .before .before .before .before .before .before .before .scl .ensures, c .before .before .before .before .before .before .before .before .line .ensures, ← c .before .before .before .before .before .before .before .before .before .before .before .before .before .opens .ensures, c .before .before .before .before .before .before .before .before .before .before .before .if1 .left);
