@@ -1,10 +1,9 @@
--- Demand 3 in a form that computes, with the step as a parameter, and three steps that bend one rule each. Where an unequal
--- bit is reached and the address covered is always said by the sheet's rules (demand 3; document 01, Bytes on the wire).
+-- Three steps that bend one rule each, and for each of them runs for which demand 3 fails and for which it still holds: demand 3
+-- tells a part that does these from one that does not (demand 3; document 01, Bytes on the wire; State and time, a byte being sent).
 use Prim.Native.Nat.{ℕ, zero, suc, _+_, _-_, _*_, _/_, _%_, _^_}
-use mathlib.Core.Bool.{Bool, true, false, _&&_}
-use mathlib.Core.List.{List, [], _∷_}
-use lib.Dec.{eqb}
-use lib.ListN.{take}
+use mathlib.Core.Bool.{Bool, true, false}
+use mathlib.Core.List.{List}
+use mathlib.Core.Path.{_≡_}
 use Rattle.ground.specs.Cases.{odd}
 use Rattle.ground.specs.Kind.{kindOf}
 use Rattle.ground.specs.Numbers.{mostBits, byteValues}
@@ -16,53 +15,13 @@ use Rattle.part.specs.declared.state.State.{State}
 use Rattle.part.specs.declared.state.Talk.{Talk}
 use Rattle.wire.specs.Sign.{pushed}
 use Rattle.device.specs.Talk.{withTalk, withControl, sending}
-use Rattle.sample.specs.Level.{answerOf}
 use Rattle.sample.specs.Sample.{withDevice}
 use Rattle.sample.specs.Run.{Part, partStep}
+use Rattle.waves.specs.Waves.{Capture, after}
 use Rattle.demand3.specs.Sending.{Sent, nothing, sends, sendsArray, sentOf}
-use Rattle.demand3.specs.Differ.{When, never, sample, firstReach, firstDiff, firstCover}
-
--- What a sample does to a part: elapsed time, level byte, part (State and time, each sample).
-abbrev pub Step : Type 0
-Step = ℕ → ℕ → Part → Part
-
--- The array after the rows under a step (What goes in and what comes out).
-abbrev pub arrayUnder : Step → List ℕ → List ℕ → Part → List ℕ
-arrayUnder step [] ls p = p .array
-arrayUnder step (e ∷ es) [] p = p .array
-arrayUnder step (e ∷ es) (l ∷ ls) p = arrayUnder step es ls (step e l p)
-
--- One answer byte a sample under a step (What goes in and what comes out).
-abbrev pub answersUnder : Step → List ℕ → List ℕ → Part → List ℕ
-answersUnder step [] ls p = []
-answersUnder step (e ∷ es) [] p = []
-answersUnder step (e ∷ es) (l ∷ ls) p = answerOf (step e l p .state) ∷ answersUnder step es ls (step e l p)
-
--- The first sample at which the answers of two parts differ under a step (demand 3).
-abbrev pub diffUnder : Step → List ℕ → List ℕ → Part → Part → When
-diffUnder step es ls p q = firstDiff 0 (answersUnder step es ls p) (answersUnder step es ls q)
-
--- Two findings are the same sample, or both none.
-abbrev pub sameWhen : When → When → Bool
-sameWhen never never = true
-sameWhen never (sample n) = false
-sameWhen (sample k) never = false
-sameWhen (sample k) (sample n) = eqb k n
-
--- Two rows do not differ as far as both go.
-abbrev pub alike : List ℕ → List ℕ → Bool
-alike xs ys = sameWhen (firstDiff 0 xs ys) never
-
--- Right after a sample that covers the address the arrays are alike, and all answers are (demand 3).
-abbrev pub coveredUnder : When → Step → List ℕ → List ℕ → Part → Part → Bool
-coveredUnder never step es ls p q = true
-coveredUnder (sample k) step es ls p q =
-    alike (arrayUnder step (take (suc k) es) (take (suc k) ls) p) (arrayUnder step (take (suc k) es) (take (suc k) ls) q) && alike (answersUnder step es ls p) (answersUnder step es ls q)
-
--- Of demand 3 only what can be told from answers and arrays: where the answers first differ, and what a covering write makes alike.
-abbrev pub holdsFor : Step → ℕ → List ℕ → List ℕ → Part → Part → Bool
-holdsFor step a es ls p q =
-    sameWhen (diffUnder step es ls p q) (firstReach a 0 es ls p q nothing nothing) && coveredUnder (firstCover a 0 es ls p) step es ls p q
+use Rattle.demand3.specs.Differ.{When, never, sample}
+use Rattle.demand3_runs.specs.Under.{Step, diffUnder}
+use Rattle.demand3_runs.specs.Occurs.{left, right, lockedLeft, lockedRight, readIt, setWrite, unsetWrite, partWay, midway, holdsOf}
 
 -- The part with another talk.
 abbrev pub withTalkOf : Part → Talk → Part
@@ -143,3 +102,18 @@ withLoad p l =
 -- Bent: a byte is put in the load though its acknowledge is withheld (against Bytes on the wire, array data, nothing kept).
 unfoldable pub keepsWithheld : Step
 keepsWithheld e l p = withLoad (partStep e l p) (partStep e l (permitted p) .state .load)
+
+-- Under a bent step: where the answers differ; demand 3 fails.
+pub record Breaks (step : Step) (p q : Part) (c : Capture) (first : When) : Type 0 where
+  pub differ : diffUnder step (c .times) (c .levels) p q ≡ first
+  pub fails : holdsOf step p q c ≡ false
+
+-- Each bent step breaks demand 3 in a run, and spares it in another (demand 3).
+pub record BentSteps : Type 0 where
+  pub lowest : Breaks lowestFirst left right readIt (sample 129)
+  pub lowest-spares : holdsOf lowestFirst left right setWrite ≡ true
+  pub anew : Breaks readsAnew (midway left) (midway right) (after partWay readIt) (sample 5)
+  pub anew-spares : holdsOf readsAnew left right readIt ≡ true
+  pub kept-unset : Breaks keepsWithheld left right unsetWrite never
+  pub kept-locked : Breaks keepsWithheld lockedLeft lockedRight setWrite never
+  pub kept-spares : holdsOf keepsWithheld left right readIt ≡ true
