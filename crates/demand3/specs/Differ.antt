@@ -15,9 +15,9 @@ use lib.ListN.{length, getD, take}
 use Rattle.ground.specs.Numbers.{pageSize}
 use Rattle.part.specs.Page.{pageOf, at, inPage}
 use Rattle.part.specs.declared.state.State.{State}
-use Rattle.wire.specs.declared.Sign.{Sign}
 use Rattle.wire.specs.declared.Sign.the-variants.{Quiet, Start, Stop, Bit, Byte, Ninth}
-use Rattle.sample.specs.Sample.{opensOf, seenOf}
+use Rattle.part.specs.State.{withDevice, withTalk, withOut}
+use Rattle.sample.specs.Sample.{opensOf, Seen, unseen, sees, seenOf}
 use Rattle.sample.specs.Run.{Part, partStep, runOf, answersOf}
 use Rattle.demand3.specs.Sending.{Sent, nothing, sends, sentOf, bitFrom}
 
@@ -68,20 +68,19 @@ sendsFrom a (sends b v n) = eqb b a
 abbrev pub fetches : ℕ → ℕ → ℕ → Part → Bool
 fetches a e level p = sendsFrom a (sentOf e level p nothing)
 
--- Not in reset, only at a stop, and there if the address lies in the page written and its mark is set (Bytes on the wire, stop).
-abbrev pub coversBy : Bool → Sign → ℕ → State → Bool
-coversBy true sign a s = false
-coversBy false Quiet a s = false
-coversBy false Start a s = false
-coversBy false (Stop n) a s = eqb (pageOf (at a)) (pageOf (s .device .counter)) && getD (s .load .marks) (inPage (at a)) false
-coversBy false Bit a s = false
-coversBy false (Byte v) a s = false
-coversBy false (Ninth b) a s = false
+-- Only at a stop that is seen, and there if the address lies in the page written and its mark is set (Bytes on the wire, stop).
+abbrev pub coversBy : Seen → ℕ → State → Bool
+coversBy unseen a s = false
+coversBy (sees Quiet) a s = false
+coversBy (sees Start) a s = false
+coversBy (sees (Stop n)) a s = eqb (pageOf (at a)) (pageOf (s .device .counter)) && getD (s .load .marks) (inPage (at a)) false
+coversBy (sees Bit) a s = false
+coversBy (sees (Byte v)) a s = false
+coversBy (sees (Ninth b)) a s = false
 
 -- A sample's write covers the address (Bytes on the wire, stop; demand 3).
 unfoldable pub covers : ℕ → ℕ → ℕ → Part → Bool
-covers a e level p =
-    coversBy (opensOf e level (p .state) .timers .reset) (seenOf level (opensOf e level (p .state))) a (p .state)
+covers a e level p = coversBy (seenOf level (opensOf e level (p .state))) a (p .state)
 
 -- A fetch from the address before any cover: never; a cover: this sample; else what the later ones say (demand 3).
 abbrev pub firstCoverBy : Bool → Bool → ℕ → When → When
@@ -114,20 +113,7 @@ pub record FullLoad (s : State) : Type 0 where
 
 -- A state without the byte being sent (State and time, a byte being sent).
 abbrev pub silenced : State → State
-silenced s =
-    record {
-      part = s .chip .part;
-      select = s .chip .select;
-      timers = s .timers;
-      wire = s .wire;
-      device =
-          record {
-            talk = record { phase = s .device .talk .phase; high = s .device .talk .high; out = 0; own = s .device .talk .own };
-            counter = s .device .counter;
-            control = s .device .control;
-          };
-      load = s .load;
-    }
+silenced s = withDevice s (withTalk (s .device) (withOut (s .device .talk) 0))
 
 -- Nothing is being sent, or a byte fetched elsewhere (demand 3).
 abbrev pub elsewhere : ℕ → Sent → Bool

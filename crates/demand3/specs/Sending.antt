@@ -8,9 +8,8 @@ use Rattle.part.specs.Page.{byteAt}
 use Rattle.part.specs.declared.state.Phase.{Phase}
 use Rattle.part.specs.declared.state.Phase.the-variants.{Idle, Silent, Slave, High, Low, Data, Register, Send, SendRegister}
 use Rattle.part.specs.declared.state.Device.{Device}
-use Rattle.wire.specs.declared.Sign.{Sign}
 use Rattle.wire.specs.declared.Sign.the-variants.{Quiet, Start, Stop, Bit, Byte, Ninth}
-use Rattle.sample.specs.Sample.{opensOf, seenOf}
+use Rattle.sample.specs.Sample.{opensOf, Seen, unseen, sees, seenOf}
 use Rattle.sample.specs.Run.{Part}
 
 -- Nothing fetched within the samples is being sent, or a byte: the address it was fetched from, its value, the bit that is out.
@@ -41,29 +40,20 @@ abbrev pub nextSent : Sent → Sent
 nextSent nothing = nothing
 nextSent (sends a b n) = sends a b (n + 1)
 
--- What each sign does to the sending: a fall puts the next bit out, the eighth ends it, so do a start and a stop (Bytes on the wire).
-abbrev pub sentBy : Sign → List ℕ → Device → Sent → Sent
-sentBy Quiet array d g = g
-sentBy Start array d g = nothing
-sentBy (Stop n) array d g = nothing
-sentBy Bit array d g = nextSent g
-sentBy (Byte v) array d g = nothing
-sentBy (Ninth b) array d g = fetchedBy (sendsArray (d .talk .phase) && not b) array d
-
--- While reset is active talk ends (State and time, 3).
-abbrev pub heardSent : Bool → Sign → List ℕ → Device → Sent → Sent
-heardSent true sign array d g = nothing
-heardSent false sign array d g = sentBy sign array d g
+-- What is seen does to the sending: reset ends it, a fall puts the next bit out, the eighth ends it, so do a start and a stop
+-- (State and time, 3; Bytes on the wire).
+abbrev pub sentBy : Seen → List ℕ → Device → Sent → Sent
+sentBy unseen array d g = nothing
+sentBy (sees Quiet) array d g = g
+sentBy (sees Start) array d g = nothing
+sentBy (sees (Stop n)) array d g = nothing
+sentBy (sees Bit) array d g = nextSent g
+sentBy (sees (Byte v)) array d g = nothing
+sentBy (sees (Ninth b)) array d g = fetchedBy (sendsArray (d .talk .phase) && not b) array d
 
 -- What is being sent after a sample, given what was before it (State and time, each sample).
 unfoldable pub sentOf : ℕ → ℕ → Part → Sent → Sent
-sentOf e level p g =
-    heardSent
-    (opensOf e level (p .state) .timers .reset)
-    (seenOf level (opensOf e level (p .state)))
-    (p .array)
-    (p .state .device)
-    g
+sentOf e level p g = sentBy (seenOf level (opensOf e level (p .state))) (p .array) (p .state .device) g
 
 -- Bit n of a byte, counted from the highest (Bytes on the wire, read: the highest bit goes out, one bit per fall).
 abbrev pub bitFrom : ℕ → ℕ → Bool

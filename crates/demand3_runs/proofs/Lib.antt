@@ -1,2 +1,2 @@
-pub mod Bending
+pub mod Computed
 pub mod Witness

@@ -15,12 +15,11 @@ use Rattle.control.specs.Register.{orderOf, carriedOut}
 use Rattle.device.specs.Bytes.{slaveOf, highOf, lowOf, takenOf, byteOf, keptOf, bitOf, ninthOf}
 use Rattle.device.specs.Ends.{startedOf, stoppedOf, endedOf}
 use Rattle.sample.specs.Level.{answerOf}
-use Rattle.sample.specs.Sample.{opensOf, resetOf, startOf, stopOf, byteStep, seenOf, wiredOf, stepOf, arrayOf}
+use Rattle.sample.specs.Sample.{opensOf, resetOf, startOf, stopOf, byteStep, signIn, seenOf, wiredOf, stepOf, arrayOf}
 use Rattle.sample.specs.Run.{partStep}
 use Rattle.twin.specs.Power.{poweredUp}
 use Rattle.demand3.specs.Sending.{sentOf}
 use Rattle.demand3.specs.Differ.{EqualBut, covers}
-use Rattle.demand3_runs.specs.Bent.{lowestFirst, readsAnew, keepsWithheld}
 use Rattle.demand3_runs.specs.Occurs.{spot, Occurs}
 
 -- Two arrays that were set at one address are equal but for it.
@@ -33,8 +32,8 @@ set-equal-but xs a v w =
 
 -- The runs of demand 3.
 pub occurs : Occurs
-unfolding inRange judgedOf poweredUp partStep stepOf arrayOf opensOf resetOf startOf stopOf byteStep seenOf wiredOf answerOf
-    sentOf covers lowestFirst readsAnew keepsWithheld kindOf loadedOf timedOf suppliedOf extentOf lockedOf storeOf
+unfolding inRange judgedOf poweredUp partStep stepOf arrayOf opensOf resetOf startOf stopOf byteStep signIn seenOf wiredOf answerOf
+    sentOf covers kindOf loadedOf timedOf suppliedOf extentOf lockedOf storeOf
     fallSign fallFrame signOf wireOf orderOf carriedOut slaveOf highOf lowOf takenOf byteOf keptOf bitOf ninthOf
     startedOf stoppedOf endedOf
 occurs =
@@ -52,11 +51,4 @@ occurs =
       covering = (refl, refl);
       cut = record { taken = refl; reached = refl; differ = refl; covered = refl; demanded = refl };
       held = (refl, refl);
-      lowest = record { differ = refl; fails = refl };
-      lowest-spares = refl;
-      anew = record { differ = refl; fails = refl };
-      anew-spares = refl;
-      kept-unset = record { differ = refl; fails = refl };
-      kept-locked = record { differ = refl; fails = refl };
-      kept-spares = refl;
     }

@@ -1,2 +1,2 @@
-pub mod Bent
 pub mod Occurs
+pub mod Under

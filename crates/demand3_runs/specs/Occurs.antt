@@ -1,6 +1,5 @@
--- Demand 3 is not empty: runs that reach an unequal bit, that are covered before, and that do neither; and for each of three
--- bent steps a run for which demand 3 fails. Two X4323 of select 0, whose arrays of 4,096 bytes differ at one address in one
--- bit (demand 3; document 01, State and time, a byte being sent).
+-- Demand 3 is not empty: runs that reach an unequal bit, that are covered before, and that do neither. Two X4323 of select 0,
+-- whose arrays of 4,096 bytes differ at one address in one bit (demand 3; document 01, State and time, a byte being sent).
 use Prim.Native.Nat.{ℕ}
 use mathlib.Core.Bool.{Bool, true, false}
 use mathlib.Core.List.{List, [], _∷_, _++_}
@@ -14,7 +13,7 @@ use Rattle.twin.specs.Power.{poweredUp}
 use Rattle.demand3.specs.Sending.{nothing}
 use Rattle.demand3.specs.Differ.{When, never, sample, EqualBut, firstReach, firstDiff, firstCover, elsewhere, sentAfter, coversNone}
 use Rattle.waves.specs.Waves.{Capture, joined, after, wait, awake, written, ordered, readAt}
-use Rattle.demand3_runs.specs.Bent.{Step, diffUnder, holdsFor, lowestFirst, readsAnew, keepsWithheld}
+use Rattle.demand3_runs.specs.Under.{Step, holdsFor}
 
 -- The address at which the arrays differ.
 abbrev pub spot : ℕ
@@ -105,17 +104,11 @@ pub record Comes (p q : Part) (c : Capture) (reach cover : When) : Type 0 where
   pub covered : firstCover spot 0 (c .times) (c .levels) p ≡ cover
   pub demanded : holdsOf partStep p q c ≡ true
 
--- Under a bent step: where the answers differ; demand 3 fails.
-pub record Breaks (step : Step) (p q : Part) (c : Capture) (first : When) : Type 0 where
-  pub differ : diffUnder step (c .times) (c .levels) p q ≡ first
-  pub fails : holdsOf step p q c ≡ false
-
 -- The runs, all computed (demand 3).
 pub record Occurs : Type 0 where
   -- the arrays are as demand 3 asks
   pub arrays : EqualBut spot (left .array) (right .array)
   pub size : length (left .array) ≡ smallSize
-  -- under the sheet's rules
   pub read : Comes left right readIt (sample 126) never
   pub other : Comes left right readOther never never
   pub write : Comes left right setWrite never (sample 230)
@@ -129,11 +122,3 @@ pub record Occurs : Type 0 where
   -- cut off before the unequal bit, the states differ in the byte being sent, and in nothing else by demand 3
   pub cut : Comes left right cutRead never never
   pub held : (stillHeld left cutRead ≡ 0x30) × (stillHeld right cutRead ≡ 0x70)
-  -- under the bent steps, and for each a run on which demand 3 still holds
-  pub lowest : Breaks lowestFirst left right readIt (sample 129)
-  pub lowest-spares : holdsOf lowestFirst left right setWrite ≡ true
-  pub anew : Breaks readsAnew (midway left) (midway right) (after partWay readIt) (sample 5)
-  pub anew-spares : holdsOf readsAnew left right readIt ≡ true
-  pub kept-unset : Breaks keepsWithheld left right unsetWrite never
-  pub kept-locked : Breaks keepsWithheld lockedLeft lockedRight setWrite never
-  pub kept-spares : holdsOf keepsWithheld left right readIt ≡ true

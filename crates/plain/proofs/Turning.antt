@@ -17,7 +17,7 @@ use Rattle.part.specs.declared.state.State.{State}
 use Rattle.wire.specs.declared.Sign.{Sign}
 use Rattle.wire.specs.Sign.{signOf, wireOf}
 use Rattle.sample.specs.Level.{sclOf, sdaOf, wpOf, vccOf}
-use Rattle.sample.specs.Sample.{opensOf, heardBy, writtenBy, seenOf, wiredOf, stepOf, arrayOf}
+use Rattle.sample.specs.Sample.{opensOf, heardBy, writtenBy, signIn, wiredOf, stepOf, arrayOf}
 use Rattle.sample.specs.Run.{Part, partStep}
 use Rattle.sample.proofs.Sampled.{step-heard, array-heard}
 use Rattle.plain.specs.Goes.{partOf, movedOf}
@@ -53,7 +53,7 @@ module _ (s : State) (array : List ℕ) (e l : ℕ) (t t′ : Timers) (w w′ : 
       → heardBy sign (wpOf l) array (movedOf s t′ w′ k p m) ≡ q
       → writtenBy sign (movedOf s t′ w′ k p m) array ≡ array
       → partOf q array ≡ partStep e l (partOf (movedOf s t w k p m) array)
-  unfolding partStep seenOf wiredOf
+  unfolding partStep signIn wiredOf
   heard sign q v h r y f g =
       let o = opened v h in
       let z = ap (λ (x : State). x .timers .reset) o ∙ r in

@@ -39,7 +39,7 @@ use Rattle.device.specs.Bytes.{slaveBy, slaveOf, highOf, addressBy, lowOf, take
 use Rattle.device.specs.Ends.{startedOf, stoppedOf, endedOf}
 use Rattle.sample.specs.Level.{sclOf, wpOf, vccOf}
 use Rattle.part.specs.State.{withWire}
-use Rattle.sample.specs.Sample.{begun, latchedBy, opensOf, resetOf, startOf, stopOf, byteStep, heardBy, lineOf, seenOf, wiredOf, goesOnBy, stepOf}
+use Rattle.sample.specs.Sample.{begun, latchedBy, opensOf, resetOf, startOf, stopOf, byteStep, heardBy, lineOf, signIn, wiredOf, goesOnBy, stepOf}
 use Rattle.sample.proofs.Sampled.{array-length}
 use Rattle.sample.specs.Run.{Part, partStep, runOf}
 use Rattle.ranges.specs.Fit.{Fit}
@@ -240,7 +240,7 @@ opens-within e level s g =
 
 -- So do rules 3 and 4.
 goes-within : (b : Bool) (level : ℕ) (array : List ℕ) (s : State) → Within s → Within (goesOnBy b level array s)
-unfolding resetOf endedOf seenOf wiredOf wireOf
+unfolding resetOf endedOf signIn wiredOf wireOf
 goes-within true level array s g =
     record {
       counter = g .counter;
@@ -251,7 +251,7 @@ goes-within true level array s g =
       stored = g .stored;
     }
 goes-within false level array s g =
-    heard-within (seenOf level s) (wpOf level) array s (wireOf (s .wire) (sclOf level) (lineOf level s))
+    heard-within (signIn level s) (wpOf level) array s (wireOf (s .wire) (sclOf level) (lineOf level s))
     (saw (s .wire) (sclOf level) (lineOf level s)) g
 
 -- A sample keeps the ranges.
@@ -280,7 +280,7 @@ heard-part (Ninth b) wp array s = refl
 goes-part : (b : Bool) (level : ℕ) (array : List ℕ) (s : State) → goesOnBy b level array s .chip .part ≡ s .chip .part
 unfolding resetOf wiredOf
 goes-part true level array s = refl
-goes-part false level array s = heard-part (seenOf level s) (wpOf level) array (wiredOf level s)
+goes-part false level array s = heard-part (signIn level s) (wpOf level) array (wiredOf level s)
 
 -- A sample leaves the part number.
 pub step-part : (e level : ℕ) (array : List ℕ) (s : State) → stepOf e level array s .chip .part ≡ s .chip .part

@@ -26,7 +26,7 @@ use Rattle.wire.specs.declared.Sign.the-variants.{Quiet, Start, Stop, Bit, Byte
 use Rattle.device.specs.Bytes.{takenOf, dataBy, byteIn, byteOf, keptBy, expectsData, keptOf, bitOf, ninthOf}
 use Rattle.device.proofs.Phases.{bit-stays, ninth-releases}
 use Rattle.sample.specs.Level.{sclOf, sdaOf, wpOf}
-use Rattle.sample.specs.Sample.{opensOf, resetOf, startOf, stopOf, byteStep, heardBy, lineOf, seenOf, wiredOf, goesOnBy, stepOf}
+use Rattle.sample.specs.Sample.{opensOf, resetOf, startOf, stopOf, byteStep, heardBy, lineOf, signIn, wiredOf, goesOnBy, stepOf}
 use Rattle.sample.specs.Run.{Part, partStep}
 use Rattle.reachable.specs.Reachable.{Reachable, Holds}
 use Rattle.reachable.proofs.Kept.Steps.{Sits, low-line}
@@ -60,8 +60,8 @@ low-inside false b c d f e h = refl
 
 -- Nor is what a part sees that holds SDA low.
 held-inside : (e level : ℕ) (s : State) → Sits s → s .device .talk .own ≡ false
-    → isEnd (seenOf level (opensOf e level s)) ≡ false
-unfolding seenOf opensOf signOf
+    → isEnd (signIn level (opensOf e level s)) ≡ false
+unfolding signIn opensOf signOf
 held-inside e level s g o =
     low-inside (s .wire .lines .scl) (sclOf level) (s .wire .lines .sda) (lineOf level s) (s .wire .frame)
     (low-line (sdaOf level) (s .device .talk .own) o) (g .line o)
@@ -138,7 +138,7 @@ goes-stays : (b : Bool) (level : ℕ) (array : List ℕ) (s : State)
     → Stays (s .device .counter) (s .load) (goesOnBy b level array s .device .counter) (goesOnBy b level array s .load)
 unfolding resetOf wiredOf
 goes-stays true level array s x = dropped-stays (s .device .counter) (resetOf level s .device .counter) (s .load)
-goes-stays false level array s x = heard-stays (seenOf level s) (wpOf level) array (wiredOf level s) x
+goes-stays false level array s x = heard-stays (signIn level s) (wpOf level) array (wiredOf level s) x
 
 -- A sample.
 step-stays : (e level : ℕ) (array : List ℕ) (s : State) → (marked (s .load) ≡ true → s .device .talk .phase ≡ Data)

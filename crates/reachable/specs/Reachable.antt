@@ -25,7 +25,7 @@ use Rattle.part.specs.declared.state.State.{State}
 use Rattle.wire.specs.declared.Sign.the-variants.{Start, Stop}
 use Rattle.ground.specs.Verdict.{accepted}
 use Rattle.refusals.specs.Refusals.{powerOf, inRange}
-use Rattle.sample.specs.Sample.{opensOf, seenOf}
+use Rattle.sample.specs.Sample.{opensOf, signIn}
 use Rattle.sample.specs.Run.{Part, partStep, runOf}
 use Rattle.twin.specs.Power.{poweredUp}
 
@@ -126,10 +126,10 @@ pub record Holds (p : Part) : Type 0 where
   pub size : length (p .array) ≡ kindOf (p .state .chip .part) .size
   -- No start is seen while the part holds SDA low (State and time, 4).
   pub start : (e level : ℕ) → p .state .device .talk .own ≡ false
-      → seenOf level (opensOf e level (p .state)) ≡ Start → ⊥
+      → signIn level (opensOf e level (p .state)) ≡ Start → ⊥
   -- Nor is a stop (State and time, 4).
   pub stop : (e level n : ℕ) → p .state .device .talk .own ≡ false
-      → seenOf level (opensOf e level (p .state)) ≡ Stop n → ⊥
+      → signIn level (opensOf e level (p .state)) ≡ Stop n → ⊥
   -- A mark that comes to be set is that of the counter's place in its page (Bytes on the wire, array data).
   pub mark : (e level i : ℕ) → getD (p .state .load .marks) i false ≡ false
       → getD (partStep e level p .state .load .marks) i false ≡ true → i ≡ inPage (p .state .device .counter)

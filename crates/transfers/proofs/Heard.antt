@@ -8,12 +8,12 @@ use Rattle.part.specs.declared.state.State.{State}
 use Rattle.part.specs.declared.state.Timers.{Timers}
 use Rattle.wire.specs.declared.Sign.{Sign}
 use Rattle.wire.specs.declared.Sign.the-variants.{Quiet, Start, Stop, Bit, Byte, Ninth}
-use Rattle.sample.specs.Sample.{begun, opensOf, resetOf, startOf, stopOf, byteStep, heardBy, seenOf, wiredOf, goesOnBy, stepOf}
+use Rattle.sample.specs.Sample.{begun, opensOf, resetOf, startOf, stopOf, byteStep, heardBy, signIn, wiredOf, goesOnBy, stepOf}
 use Rattle.sample.specs.Level.{wpOf}
 
 -- The sign, and the phase that it meets.
-pub same-sign : (e level : ℕ) (s : State) → seenOf level (opensOf e level s) ≡ seenOf level s
-unfolding seenOf opensOf
+pub same-sign : (e level : ℕ) (s : State) → signIn level (opensOf e level s) ≡ signIn level s
+unfolding signIn opensOf
 same-sign e level s = refl
 
 pub same-phase : (e level : ℕ) (s : State) → opensOf e level s .device .talk .phase ≡ s .device .talk .phase
@@ -38,7 +38,7 @@ heard-reset (Ninth b) wp array s = refl
 goes-on-reset : (b : Bool) (level : ℕ) (array : List ℕ) (s : State) → goesOnBy b level array s .timers .reset ≡ s .timers .reset
 unfolding resetOf wiredOf
 goes-on-reset true level array s = refl
-goes-on-reset false level array s = heard-reset (seenOf level s) (wpOf level) array (wiredOf level s)
+goes-on-reset false level array s = heard-reset (signIn level s) (wpOf level) array (wiredOf level s)
 
 -- Reset is active after a sample exactly if it is after rules 1 and 2.
 pub same-reset : (e level : ℕ) (array : List ℕ) (s : State) → stepOf e level array s .timers .reset ≡ opensOf e level s .timers .reset

@@ -10,6 +10,7 @@ ghost use mathlib.Core.List.{List, [], _∷_};
 ghost use Prim.Native.Nat.{_+_, _<_, _≤_, min};
 ghost use lib.ListN.{length};
 ghost use Rattle.entries.specs.Entries.{Says};
+ghost use Rattle.sample.specs.Sample.{signIn, seenBy};
 ghost use Rattle.transfers.specs.Transfers.{heardIn, sampleSays};
 ghost use Rattle.transfers.specs.Promises.{Lists};
 
@@ -29,7 +30,7 @@ fn put_heard(
     at: usize,
 ) -> usize
     requires { ⌜ at < 18446744073709551615 ⌝ }
-    ensures { λ r. ⌜ Says 1 place (heardIn reset level before) at (now (entries .entry)) r (now (entries .exit)) ⌝ }
+    ensures { λ r. ⌜ Says 1 place (heardIn (seenBy reset (signIn level before)) before) at (now (entries .entry)) r (now (entries .exit)) ⌝ }
 {
     if reset {
         return at;

@@ -15,7 +15,7 @@ use Rattle.ground.proofs.Tests.{and-split}
 use Rattle.part.proofs.Store.{store-length, store-at}
 use Rattle.wire.specs.declared.Sign.{Sign}
 use Rattle.wire.specs.declared.Sign.the-variants.{Quiet, Start, Stop, Bit, Byte, Ninth}
-use Rattle.sample.specs.Sample.{opensOf, savedBy, writtenBy, seenOf, wiredOf, keepsBy, arrayOf}
+use Rattle.sample.specs.Sample.{opensOf, savedBy, writtenBy, signIn, wiredOf, keepsBy, arrayOf}
 use Rattle.sample.specs.Run.{Part, partStep, runOf}
 use Rattle.demand3.specs.Differ.{coversBy, covers, coversNone, FullLoad}
 use Rattle.demand3.proofs.Sent.TwoArrays.{whole-kept}
@@ -47,10 +47,10 @@ module _ (a e level : ℕ) (s : State) (w : FullLoad s) (xs : List ℕ) where
   written-stays (Ninth b) c = refl
 
   -- So does rule 3 or 4.
-  keeps-stays : (r : Bool) → coversBy r (seenOf level (opensOf e level s)) a s ≡ false
+  keeps-stays : (r : Bool) → coversBy r (signIn level (opensOf e level s)) a s ≡ false
       → getD (keepsBy r level xs (opensOf e level s)) a 0 ≡ getD xs a 0
   keeps-stays true c = refl
-  keeps-stays false c = written-stays (seenOf level (opensOf e level s)) c
+  keeps-stays false c = written-stays (signIn level (opensOf e level s)) c
 
   -- A sample whose write does not cover the address leaves its byte.
   array-stays : covers a e level record { state = s; array = xs } ≡ false → getD (arrayOf e level xs s) a 0 ≡ getD xs a 0

@@ -26,7 +26,7 @@ use Rattle.device.specs.Talk.{sending}
 use Rattle.device.specs.Bytes.{byteOf, keptOf, bitOf, fetch, ninthIn, ninthOf}
 use Rattle.device.specs.Ends.{startedOf, stoppedOf, endedOf}
 use Rattle.sample.specs.Level.{sclOf, wpOf}
-use Rattle.sample.specs.Sample.{opensOf, resetOf, startOf, stopOf, byteStep, heardBy, lineOf, seenOf, wiredOf, goesOnBy, stepOf}
+use Rattle.sample.specs.Sample.{opensOf, resetOf, startOf, stopOf, byteStep, heardBy, lineOf, signIn, wiredOf, goesOnBy, stepOf}
 use Rattle.sample.specs.Run.{Part}
 use Rattle.demand3.specs.Sending.{Sent, nothing, sends, sendsArray, fetchedBy, nextSent, sentBy, heardSent, sentOf, bitFrom}
 use Rattle.demand3.specs.Differ.{elsewhere, EqualBut}
@@ -167,15 +167,15 @@ module _ {a : ℕ} {xs ys : List ℕ} (but : EqualBut a xs ys) where
   -- Equal states are beside each other after rule 3 or 4.
   goes-equal : (r : Bool) (e level : ℕ) (s : State) (g : Sent) → elsewhere a g ≡ true
       → Beside a (goesOnBy r level xs (opensOf e level s)) (goesOnBy r level ys (opensOf e level s))
-      (heardSent r (seenOf level (opensOf e level s)) xs (s .device) g)
-      (heardSent r (seenOf level (opensOf e level s)) ys (s .device) g)
-  unfolding opensOf seenOf wiredOf signOf wireOf
+      (heardSent r (signIn level (opensOf e level s)) xs (s .device) g)
+      (heardSent r (signIn level (opensOf e level s)) ys (s .device) g)
+  unfolding opensOf signIn wiredOf signOf wireOf
   goes-equal true e level s g f = equal refl refl refl
   goes-equal false e level s g f =
       let w : Wire = s .wire in
       let o : State = opensOf e level s in
       let i = sign-counts (w .lines .scl) (sclOf level) (w .lines .sda) (lineOf level s) (w .frame) in
-      heard-equal (seenOf level o) (wpOf level) (wiredOf level o) (s .device .control) (w .frame .bits) g i f
+      heard-equal (signIn level o) (wpOf level) (wiredOf level o) (s .device .control) (w .frame .bits) g i f
 
   -- Equal states are beside each other after a sample.
   pub step-equal : (e level : ℕ) (s : State) (g : Sent) → elsewhere a g ≡ true
@@ -228,18 +228,18 @@ module _ {a : ℕ} {xs ys : List ℕ} (but : EqualBut a xs ys)
       → Beside a
       (goesOnBy r level xs (opensOf e level (sendingState s b (shifted n v))))
       (goesOnBy r level ys (opensOf e level (sendingState s b (shifted n w))))
-      (heardSent r (seenOf level (opensOf e level (sendingState s b (shifted n v)))) xs
+      (heardSent r (signIn level (opensOf e level (sendingState s b (shifted n v)))) xs
       (sendingState s b (shifted n v) .device) (sends a v n))
-      (heardSent r (seenOf level (opensOf e level (sendingState s b (shifted n w)))) ys
+      (heardSent r (signIn level (opensOf e level (sendingState s b (shifted n w)))) ys
       (sendingState s b (shifted n w) .device) (sends a w n))
-  unfolding opensOf seenOf wiredOf signOf wireOf resetOf endedOf
+  unfolding opensOf signIn wiredOf signOf wireOf resetOf endedOf
   goes-apart true e level s i = equal refl refl refl
   goes-apart false e level s i =
       let o : State = opensOf e level (sendingState s b 0) in
       let f : Wire = s .wire in
       let j = sign-counts (f .lines .scl) (sclOf level) (f .lines .sda) (lineOf level o) (f .frame) in
-      let k = subst (λ (m : ℕ). Counts (seenOf level o) m (wiredOf level o .wire .frame .bits)) i j in
-      heard-apart (seenOf level o) (wpOf level) (wiredOf level o) (s .device .control) k
+      let k = subst (λ (m : ℕ). Counts (signIn level o) m (wiredOf level o .wire .frame .bits)) i j in
+      heard-apart (signIn level o) (wpOf level) (wiredOf level o) (s .device .control) k
 
   -- They are after a sample.
   pub step-apart : (e level : ℕ) (s : State) → s .wire .frame .bits ≡ n

@@ -25,7 +25,7 @@ use Rattle.wire.specs.declared.Sign.{Sign}
 use Rattle.wire.specs.declared.Sign.the-variants.{Quiet, Start, Stop, Bit, Byte, Ninth}
 use Rattle.device.specs.Bytes.{takenOf, keptBy, expectsData, keptOf}
 use Rattle.sample.specs.Level.{wpOf}
-use Rattle.sample.specs.Sample.{opensOf, resetOf, startOf, stopOf, byteStep, heardBy, savedBy, writtenBy, seenOf, wiredOf, goesOnBy, stepOf, keepsBy, arrayOf}
+use Rattle.sample.specs.Sample.{opensOf, resetOf, startOf, stopOf, byteStep, heardBy, savedBy, writtenBy, signIn, wiredOf, goesOnBy, stepOf, keepsBy, arrayOf}
 use Rattle.demand3.specs.Differ.{coversBy, covers, EqualBut, FullLoad, silenced}
 
 -- A mark that is set is one of the marks.
@@ -101,7 +101,7 @@ keeps-kept : {a : ℕ} {xs ys : List ℕ} (b : Bool) (level : ℕ) (s : State) �
 unfolding wiredOf
 keeps-kept true level s w e = e
 keeps-kept false level s w e =
-    written-kept (seenOf level s) (wiredOf level s) record { bytes = w .bytes; marks = w .marks } e
+    written-kept (signIn level s) (wiredOf level s) record { bytes = w .bytes; marks = w .marks } e
 
 -- Arrays equal but for an address stay so in a sample of one state.
 pub arrays-kept : {a : ℕ} {xs ys : List ℕ} (e level : ℕ) (s : State) → FullLoad s → EqualBut a xs ys
@@ -124,10 +124,10 @@ module _ {a : ℕ} {xs ys : List ℕ} (e level : ℕ) (s : State) (w : FullLoad 
   written-equal (Ninth b) c = absurd (true≢false (sym c))
 
   -- So it does by rule 3 or 4.
-  keeps-equal : (r : Bool) → coversBy r (seenOf level (opensOf e level s)) a s ≡ true
+  keeps-equal : (r : Bool) → coversBy r (signIn level (opensOf e level s)) a s ≡ true
       → keepsBy r level xs (opensOf e level s) ≡ keepsBy r level ys (opensOf e level s)
   keeps-equal true c = absurd (true≢false (sym c))
-  keeps-equal false c = written-equal (seenOf level (opensOf e level s)) c
+  keeps-equal false c = written-equal (signIn level (opensOf e level s)) c
 
   -- A sample whose write covers the address makes the arrays equal.
   pub arrays-equal : covers a e level record { state = s; array = xs } ≡ true
@@ -150,9 +150,9 @@ written-silent (Ninth b) e level s xs = refl
 -- Nor does it by rule 3 or 4.
 keeps-silent : (r : Bool) (e level : ℕ) (s : State) (xs : List ℕ)
     → keepsBy r level xs (opensOf e level s) ≡ keepsBy r level xs (opensOf e level (silenced s))
-unfolding opensOf seenOf
+unfolding opensOf signIn
 keeps-silent true e level s xs = refl
-keeps-silent false e level s xs = written-silent (seenOf level (opensOf e level s)) e level s xs
+keeps-silent false e level s xs = written-silent (signIn level (opensOf e level s)) e level s xs
 
 -- The byte being sent does not count for the array after a sample.
 pub array-silent : (e level : ℕ) (s : State) (xs : List ℕ) → arrayOf e level xs s ≡ arrayOf e level xs (silenced s)
@@ -201,7 +201,7 @@ goes-whole : (r : Bool) (level : ℕ) (xs : List ℕ) (s : State) → FullLoad s
 unfolding resetOf wiredOf
 goes-whole true level xs s w = record { bytes = refl; marks = refl }
 goes-whole false level xs s w =
-    heard-whole (seenOf level s) (wpOf level) xs (wiredOf level s) record { bytes = w .bytes; marks = w .marks }
+    heard-whole (signIn level s) (wpOf level) xs (wiredOf level s) record { bytes = w .bytes; marks = w .marks }
 
 -- A load stays whole in a sample.
 pub whole-kept : (e level : ℕ) (xs : List ℕ) (s : State) → FullLoad s → FullLoad (stepOf e level xs s)

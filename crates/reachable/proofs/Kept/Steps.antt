@@ -20,7 +20,7 @@ use Rattle.part.specs.State.{withControl, withWire}
 use Rattle.device.specs.Bytes.{byteOf, keptOf, bitOf, ninthOf}
 use Rattle.device.specs.Ends.{startedOf, dropped, stoppedOf, endedOf}
 use Rattle.sample.specs.Level.{sclOf, sdaOf, wpOf, vccOf}
-use Rattle.sample.specs.Sample.{latchedBy, opensOf, resetOf, startOf, stopOf, byteStep, heardBy, lineOf, seenOf, wiredOf, goesOnBy, stepOf}
+use Rattle.sample.specs.Sample.{latchedBy, opensOf, resetOf, startOf, stopOf, byteStep, heardBy, lineOf, signIn, wiredOf, goesOnBy, stepOf}
 use Rattle.ranges.proofs.Signs.{Saw, saw}
 use Rattle.reachable.proofs.Kept.Talks.{Talks, fresh, start-talks, stop-talks}
 use Rattle.reachable.proofs.Kept.Falls.{bit-talks, byte-talks, ninth-talks}
@@ -75,10 +75,10 @@ low-line false own e = refl
 
 -- Rule 4 keeps it.
 wired-sits : (level : ℕ) (array : List ℕ) (s : State) → Sits s
-    → Sits (heardBy (seenOf level s) (wpOf level) array (wiredOf level s))
-unfolding seenOf wiredOf wireOf
+    → Sits (heardBy (signIn level s) (wpOf level) array (wiredOf level s))
+unfolding signIn wiredOf wireOf
 wired-sits level array s g =
-    heard-sits (seenOf level s) (wpOf level) array s (wireOf (s .wire) (sclOf level) (lineOf level s))
+    heard-sits (signIn level s) (wpOf level) array s (wireOf (s .wire) (sclOf level) (lineOf level s))
     (saw (s .wire) (sclOf level) (lineOf level s)) (low-line (sdaOf level) (s .device .talk .own)) g
 
 -- The state after rules 1 and 2, with the supply and the timers after rule 1.

@@ -1,5 +1,5 @@
 -- `transfers::put_heard` meets its contract: the sign is that of the state before and the sample's levels.
-use Rattle.sample.specs.Sample.{seenOf}
+use Rattle.sample.specs.Sample.{signIn}
 use Rattle.entries.proofs.Laid.{says-none}
 use borrow.Author.Needs.{needs}
 use Rattle.transfers.proofs.put_heard.Statement.{statement}
@@ -24,7 +24,7 @@ same-length : tie.Need-same-length
 same-length c = search needs
 
 returns-2 : tie.Need-returns-2
-unfolding seenOf
+unfolding signIn
 returns-2 c =
     rw (c .before .before .before .before .before .before .before .before .before .before .before .if1 .left, ← c .before .before .before .before .before .before .line .ensures, ← c .before .before .before .before .before .scl .ensures) (rw (c .before .before .before .before .see .ensures) at (c .before .before .put-sign .ensures))
 

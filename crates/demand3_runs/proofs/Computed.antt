@@ -7,7 +7,7 @@ use mathlib.Core.Path.{_≡_, refl}
 use borrow.Author.Tests.{eq-eqb}
 use Rattle.sample.specs.Run.{Part, partStep, runOf, answersOf}
 use Rattle.demand3.specs.Differ.{When, never, sample, firstDiff, firstCover, Covered, Demand3}
-use Rattle.demand3_runs.specs.Bent.{arrayUnder, answersUnder, sameWhen, coveredUnder, holdsFor}
+use Rattle.demand3_runs.specs.Under.{arrayUnder, answersUnder, sameWhen, coveredUnder, holdsFor}
 
 -- Under the real step the array after the rows is that of the sheet.
 array-real : (es ls : List ℕ) (p : Part) → arrayUnder partStep es ls p ≡ runOf es ls p .array
