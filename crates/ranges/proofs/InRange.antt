@@ -38,8 +38,8 @@ use Rattle.device.specs.Talk.{addressOf, matches}
 use Rattle.device.specs.Bytes.{slaveBy, slaveOf, highOf, addressBy, lowOf, takenOf, dataBy, registerBy, byteIn, byteOf, keptOf, bitIn, bitOf, answeredBy, ninthIn, ninthOf}
 use Rattle.device.specs.Ends.{startedOf, stoppedOf, endedOf}
 use Rattle.sample.specs.Level.{sclOf, wpOf, vccOf}
-use Rattle.part.specs.State.{withWire}
-use Rattle.sample.specs.Sample.{begun, latchedBy, opensOf, resetOf, startOf, stopOf, byteStep, heardBy, lineOf, signIn, wiredOf, goesOnBy, stepOf}
+use Rattle.part.specs.State.{withTimers, withWire, withDevice, withLoad}
+use Rattle.sample.specs.Sample.{begun, latchedBy, opensOf, resetOf, startOf, stopOf, byteStep, heardBy, lineOf, signIn, wiredOf, Seen, unseen, sees, seenBy, seenOf, goesOnBy, stepOf}
 use Rattle.sample.proofs.Sampled.{array-length}
 use Rattle.sample.specs.Run.{Part, partStep, runOf}
 use Rattle.ranges.specs.Fit.{Fit}
@@ -89,8 +89,8 @@ within-range s g =
       le-leb (s .timers .write) writeTime (g .times .write),
       le-leb (s .timers .hold) resetHold (g .times .hold),
       le-leb (s .timers .watchdog .left) longWatch (g .times .left),
-      g .chip .part,
-      g .chip .select,
+      g .part,
+      g .select,
     ) (g .stored)
 
 -- The two ranges of a device: its counter and its stored byte.
@@ -174,9 +174,9 @@ module _ (k : Kind) (q : Sound k) (d : Device) (g : Fits k d) where
 -- A state with the part and the select as they were, all else in its ranges.
 kept : (s : State) → Within s → (t : Timers) (w : Wire) (d : Device) (l : Load) → Times t → w .frame .bits ≤ mostBits
     → Fits (kindOf (s .chip .part)) d
-    → Within (record { part = s .chip .part; select = s .chip .select; timers = t; wire = w; device = d; load = l })
+    → Within (withLoad (withDevice (withWire (withTimers s t) w) d) l)
 kept s g t w d l h b f =
-    record { counter = f .0; bits = b; times = h; part = g .chip .part; select = g .chip .select; stored = f .1 }
+    record { counter = f .0; bits = b; times = h; part = g .part; select = g .select; stored = f .1 }
 
 -- Each sign keeps the ranges, on a wire as the sign says.
 heard-within : (sign : Sign) (wp : Bool) (array : List ℕ) (s : State) (w : Wire)
@@ -190,8 +190,8 @@ heard-within Start wp array s w e g =
       counter = g .counter;
       bits = omega arith;
       times = watched-times (s .device .control .stored) (s .timers) (g .times);
-      part = g .chip .part;
-      select = g .chip .select;
+      part = g .part;
+      select = g .select;
       stored = g .stored;
     }
 heard-within (Stop n) wp array s w e g =
@@ -201,21 +201,21 @@ heard-within (Stop n) wp array s w e g =
       times =
           begun-times (takesTime (orderOf wp (s .device .control))) (begun (marked (s .load)) (s .timers))
           (begun-times (marked (s .load)) (s .timers) (g .times));
-      part = g .chip .part;
-      select = g .chip .select;
+      part = g .part;
+      select = g .select;
       stored = order-stored (orderOf wp (s .device .control)) (s .device .control) (g .stored);
     }
 heard-within Bit wp array s w e g =
     kept s g (s .timers) w (bitOf (s .device)) (s .load) (g .times) (omega arith)
-    (bit-in (kindOf (s .chip .part)) (kind-sound (s .chip .part) (g .chip .part)) (s .device) (g .counter, g .stored) (s .device .talk .phase))
+    (bit-in (kindOf (s .chip .part)) (kind-sound (s .chip .part) (g .part)) (s .device) (g .counter, g .stored) (s .device .talk .phase))
 heard-within (Byte v) wp array s w e g =
     kept s g (s .timers) w (byteOf (kindOf (s .chip .part)) (s .chip .select) (s .device) v)
     (keptOf (kindOf (s .chip .part)) (s .device) v (s .load)) (g .times) (omega arith)
-    (byte-in (kindOf (s .chip .part)) (kind-sound (s .chip .part) (g .chip .part)) (s .device) (g .counter, g .stored)
+    (byte-in (kindOf (s .chip .part)) (kind-sound (s .chip .part) (g .part)) (s .device) (g .counter, g .stored)
     (s .device .talk .phase) (s .chip .select) v)
 heard-within (Ninth b) wp array s w e g =
     kept s g (s .timers) w (ninthOf (kindOf (s .chip .part)) array b (s .device)) (s .load) (g .times) (omega arith)
-    (ninth-in (kindOf (s .chip .part)) (kind-sound (s .chip .part) (g .chip .part)) (s .device) (g .counter, g .stored)
+    (ninth-in (kindOf (s .chip .part)) (kind-sound (s .chip .part) (g .part)) (s .device) (g .counter, g .stored)
     (s .device .talk .phase) b array)
 
 -- Low supply keeps the stored byte.
@@ -233,21 +233,21 @@ opens-within e level s g =
       times =
           supplied-times (vccOf level) (timedOf (s .device .control .stored) e (s .timers))
           (timed-times (s .device .control .stored) e (s .timers) (g .times));
-      part = g .chip .part;
-      select = g .chip .select;
+      part = g .part;
+      select = g .select;
       stored = latched-stored (vccOf level) (s .device .control) (g .stored);
     }
 
 -- So do rules 3 and 4.
-goes-within : (b : Bool) (level : ℕ) (array : List ℕ) (s : State) → Within s → Within (goesOnBy b level array s)
+goes-within : (b : Bool) (level : ℕ) (array : List ℕ) (s : State) → Within s → Within (goesOnBy (seenBy b (signIn level s)) level array s)
 unfolding resetOf endedOf signIn wiredOf wireOf
 goes-within true level array s g =
     record {
       counter = g .counter;
       bits = omega arith;
       times = g .times;
-      part = g .chip .part;
-      select = g .chip .select;
+      part = g .part;
+      select = g .select;
       stored = g .stored;
     }
 goes-within false level array s g =
@@ -256,7 +256,7 @@ goes-within false level array s g =
 
 -- A sample keeps the ranges.
 pub step-within : (e level : ℕ) (array : List ℕ) (s : State) → Within s → Within (stepOf e level array s)
-unfolding stepOf
+unfolding stepOf seenOf
 step-within e level array s g =
     goes-within (opensOf e level s .timers .reset) level array (opensOf e level s) (opens-within e level s g)
 
@@ -277,15 +277,15 @@ heard-part (Byte v) wp array s = refl
 heard-part (Ninth b) wp array s = refl
 
 -- So does rule 3 or 4.
-goes-part : (b : Bool) (level : ℕ) (array : List ℕ) (s : State) → goesOnBy b level array s .chip .part ≡ s .chip .part
+goes-part : (x : Seen) (level : ℕ) (array : List ℕ) (s : State) → goesOnBy x level array s .chip .part ≡ s .chip .part
 unfolding resetOf wiredOf
-goes-part true level array s = refl
-goes-part false level array s = heard-part (signIn level s) (wpOf level) array (wiredOf level s)
+goes-part unseen level array s = refl
+goes-part (sees sign) level array s = heard-part sign (wpOf level) array (wiredOf level s)
 
 -- A sample leaves the part number.
 pub step-part : (e level : ℕ) (array : List ℕ) (s : State) → stepOf e level array s .chip .part ≡ s .chip .part
 unfolding stepOf opensOf
-step-part e level array s = goes-part (opensOf e level s .timers .reset) level array (opensOf e level s)
+step-part e level array s = goes-part (seenOf level (opensOf e level s)) level array (opensOf e level s)
 
 -- A part that is fit for a replay is so after any rows, first sample first.
 pub run-fit : (es ls : List ℕ) (p : Part) → Fit p → Fit (runOf es ls p)

@@ -26,7 +26,7 @@ use Rattle.wire.specs.declared.Sign.the-variants.{Quiet, Start, Stop, Bit, Byte
 use Rattle.device.specs.Bytes.{takenOf, dataBy, byteIn, byteOf, keptBy, expectsData, keptOf, bitOf, ninthOf}
 use Rattle.device.proofs.Phases.{bit-stays, ninth-releases}
 use Rattle.sample.specs.Level.{sclOf, sdaOf, wpOf}
-use Rattle.sample.specs.Sample.{opensOf, resetOf, startOf, stopOf, byteStep, heardBy, lineOf, signIn, wiredOf, goesOnBy, stepOf}
+use Rattle.sample.specs.Sample.{opensOf, resetOf, startOf, stopOf, byteStep, heardBy, lineOf, signIn, wiredOf, Seen, unseen, sees, seenOf, goesOnBy, stepOf}
 use Rattle.sample.specs.Run.{Part, partStep}
 use Rattle.reachable.specs.Reachable.{Reachable, Holds}
 use Rattle.reachable.proofs.Kept.Steps.{Sits, low-line}
@@ -133,18 +133,18 @@ heard-stays (Ninth b) wp array s x =
     (λ e. rw (ninth-releases (kindOf (s .chip .part)) array b (s .device) (cc)))
 
 -- Rules 3 and 4.
-goes-stays : (b : Bool) (level : ℕ) (array : List ℕ) (s : State)
+goes-stays : (x : Seen) (level : ℕ) (array : List ℕ) (s : State)
     → (marked (s .load) ≡ true → s .device .talk .phase ≡ Data)
-    → Stays (s .device .counter) (s .load) (goesOnBy b level array s .device .counter) (goesOnBy b level array s .load)
+    → Stays (s .device .counter) (s .load) (goesOnBy x level array s .device .counter) (goesOnBy x level array s .load)
 unfolding resetOf wiredOf
-goes-stays true level array s x = dropped-stays (s .device .counter) (resetOf level s .device .counter) (s .load)
-goes-stays false level array s x = heard-stays (signIn level s) (wpOf level) array (wiredOf level s) x
+goes-stays unseen level array s h = dropped-stays (s .device .counter) (resetOf level s .device .counter) (s .load)
+goes-stays (sees sign) level array s h = heard-stays sign (wpOf level) array (wiredOf level s) h
 
 -- A sample.
 step-stays : (e level : ℕ) (array : List ℕ) (s : State) → (marked (s .load) ≡ true → s .device .talk .phase ≡ Data)
     → Stays (s .device .counter) (s .load) (stepOf e level array s .device .counter) (stepOf e level array s .load)
 unfolding stepOf opensOf
-step-stays e level array s x = goes-stays (opensOf e level s .timers .reset) level array (opensOf e level s) x
+step-stays e level array s x = goes-stays (seenOf level (opensOf e level s)) level array (opensOf e level s) x
 
 -- So it is of every part that stands so.
 stands-holds : (p : Part) → Stands p → Holds p

@@ -74,11 +74,11 @@ run-sits (e ∷ es) (l ∷ ls) p g = run-sits es ls (partStep e l p) (step-sits 
 pub reachable-stands : (p : Part) → Reachable p → Stands p
 unfolding poweredUp
 reachable-stands p r =
-    let q = atPower (r .chip .part) (r .chip .select) (r .stored) (r .array) in
-    let w = power-within (r .chip .part) (r .chip .select) (r .stored) (r .given) in
+    let q = atPower (r .part) (r .select) (r .stored) (r .array) in
+    let w = power-within (r .part) (r .select) (r .stored) (r .given) in
     subst (λ (x : Part). Stands x) (r .reached)
     (record {
-      sits = run-sits (r .es) (r .ls) q (power-sits (r .chip .part) (r .chip .select) (r .stored));
+      sits = run-sits (r .es) (r .ls) q (power-sits (r .part) (r .select) (r .stored));
       fit = run-fit (r .es) (r .ls) q (record { range = within-range (q .state) w; size = r .size });
     })
 
@@ -172,8 +172,8 @@ run-joined (e ∷ es) (l ∷ ls) fs ms p h = run-joined es ls fs ms (partStep e 
 pub reachable-on : (p : Part) → Reachable p → (es ls : List ℕ) → length es ≡ length ls → Reachable (runOf es ls p)
 reachable-on p r es ls h =
     record {
-      part = r .chip .part;
-      select = r .chip .select;
+      part = r .part;
+      select = r .select;
       stored = r .stored;
       array = r .array;
       es = r .es ++ es;
@@ -182,6 +182,6 @@ reachable-on p r es ls h =
       size = r .size;
       rows = simp length-append (omega arith);
       reached =
-          run-joined (r .es) (r .ls) es ls (atPower (r .chip .part) (r .chip .select) (r .stored) (r .array)) (r .rows)
+          run-joined (r .es) (r .ls) es ls (atPower (r .part) (r .select) (r .stored) (r .array)) (r .rows)
           ∙ ap (runOf es ls) (r .reached);
     }

@@ -8,7 +8,7 @@ use Rattle.part.specs.declared.state.State.{State}
 use Rattle.part.specs.declared.state.Timers.{Timers}
 use Rattle.wire.specs.declared.Sign.{Sign}
 use Rattle.wire.specs.declared.Sign.the-variants.{Quiet, Start, Stop, Bit, Byte, Ninth}
-use Rattle.sample.specs.Sample.{begun, opensOf, resetOf, startOf, stopOf, byteStep, heardBy, signIn, wiredOf, goesOnBy, stepOf}
+use Rattle.sample.specs.Sample.{begun, opensOf, resetOf, startOf, stopOf, byteStep, heardBy, signIn, wiredOf, Seen, unseen, sees, seenOf, goesOnBy, stepOf}
 use Rattle.sample.specs.Level.{wpOf}
 
 -- The sign, and the phase that it meets.
@@ -35,12 +35,12 @@ heard-reset Bit wp array s = refl
 heard-reset (Byte v) wp array s = refl
 heard-reset (Ninth b) wp array s = refl
 
-goes-on-reset : (b : Bool) (level : ℕ) (array : List ℕ) (s : State) → goesOnBy b level array s .timers .reset ≡ s .timers .reset
+goes-on-reset : (x : Seen) (level : ℕ) (array : List ℕ) (s : State) → goesOnBy x level array s .timers .reset ≡ s .timers .reset
 unfolding resetOf wiredOf
-goes-on-reset true level array s = refl
-goes-on-reset false level array s = heard-reset (signIn level s) (wpOf level) array (wiredOf level s)
+goes-on-reset unseen level array s = refl
+goes-on-reset (sees sign) level array s = heard-reset sign (wpOf level) array (wiredOf level s)
 
 -- Reset is active after a sample exactly if it is after rules 1 and 2.
 pub same-reset : (e level : ℕ) (array : List ℕ) (s : State) → stepOf e level array s .timers .reset ≡ opensOf e level s .timers .reset
 unfolding stepOf
-same-reset e level array s = goes-on-reset (opensOf e level s .timers .reset) level array (opensOf e level s)
+same-reset e level array s = goes-on-reset (seenOf level (opensOf e level s)) level array (opensOf e level s)

@@ -15,7 +15,7 @@ use Rattle.ground.proofs.Tests.{and-split}
 use Rattle.part.proofs.Store.{store-length, store-at}
 use Rattle.wire.specs.declared.Sign.{Sign}
 use Rattle.wire.specs.declared.Sign.the-variants.{Quiet, Start, Stop, Bit, Byte, Ninth}
-use Rattle.sample.specs.Sample.{opensOf, savedBy, writtenBy, signIn, wiredOf, keepsBy, arrayOf}
+use Rattle.sample.specs.Sample.{opensOf, savedBy, writtenBy, wiredOf, Seen, unseen, sees, seenOf, keepsBy, arrayOf}
 use Rattle.sample.specs.Run.{Part, partStep, runOf}
 use Rattle.demand3.specs.Differ.{coversBy, covers, coversNone, FullLoad}
 use Rattle.demand3.proofs.Sent.TwoArrays.{whole-kept}
@@ -36,7 +36,7 @@ module _ (a e level : ℕ) (s : State) (w : FullLoad s) (xs : List ℕ) where
           List·getD-eq-default (storeOf p (s .load) xs) 0 k ∙ sym (List·getD-eq-default xs 0 h)
 
   -- So does a sign whose write does not cover it.
-  written-stays : (sign : Sign) → coversBy false sign a s ≡ false
+  written-stays : (sign : Sign) → coversBy (sees sign) a s ≡ false
       → getD (writtenBy sign (wiredOf level (opensOf e level s)) xs) a 0 ≡ getD xs a 0
   unfolding wiredOf opensOf
   written-stays Quiet c = refl
@@ -47,15 +47,14 @@ module _ (a e level : ℕ) (s : State) (w : FullLoad s) (xs : List ℕ) where
   written-stays (Ninth b) c = refl
 
   -- So does rule 3 or 4.
-  keeps-stays : (r : Bool) → coversBy r (signIn level (opensOf e level s)) a s ≡ false
-      → getD (keepsBy r level xs (opensOf e level s)) a 0 ≡ getD xs a 0
-  keeps-stays true c = refl
-  keeps-stays false c = written-stays (signIn level (opensOf e level s)) c
+  keeps-stays : (x : Seen) → coversBy x a s ≡ false → getD (keepsBy x level xs (opensOf e level s)) a 0 ≡ getD xs a 0
+  keeps-stays unseen c = refl
+  keeps-stays (sees sign) c = written-stays sign c
 
   -- A sample whose write does not cover the address leaves its byte.
   array-stays : covers a e level record { state = s; array = xs } ≡ false → getD (arrayOf e level xs s) a 0 ≡ getD xs a 0
   unfolding arrayOf covers
-  array-stays c = keeps-stays (opensOf e level s .timers .reset) c
+  array-stays c = keeps-stays (seenOf level (opensOf e level s)) c
 
 -- Rows without a write that covers the address leave its byte.
 pub rows-stay : (a : ℕ) (es ls : List ℕ) (p : Part) → FullLoad (p .state) → coversNone a es ls p ≡ true

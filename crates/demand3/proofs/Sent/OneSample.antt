@@ -26,9 +26,9 @@ use Rattle.device.specs.Talk.{sending}
 use Rattle.device.specs.Bytes.{byteOf, keptOf, bitOf, fetch, ninthIn, ninthOf}
 use Rattle.device.specs.Ends.{startedOf, stoppedOf, endedOf}
 use Rattle.sample.specs.Level.{sclOf, wpOf}
-use Rattle.sample.specs.Sample.{opensOf, resetOf, startOf, stopOf, byteStep, heardBy, lineOf, signIn, wiredOf, goesOnBy, stepOf}
+use Rattle.sample.specs.Sample.{opensOf, resetOf, startOf, stopOf, byteStep, heardBy, lineOf, signIn, wiredOf, sees, seenBy, seenOf, goesOnBy, stepOf}
 use Rattle.sample.specs.Run.{Part}
-use Rattle.demand3.specs.Sending.{Sent, nothing, sends, sendsArray, fetchedBy, nextSent, sentBy, heardSent, sentOf, bitFrom}
+use Rattle.demand3.specs.Sending.{Sent, nothing, sends, sendsArray, fetchedBy, nextSent, sentBy, sentOf, bitFrom}
 use Rattle.demand3.specs.Differ.{elsewhere, EqualBut}
 use Rattle.demand3.proofs.Sent.SentBits.{shifted, bit-out}
 
@@ -155,7 +155,7 @@ module _ {a : ℕ} {xs ys : List ℕ} (but : EqualBut a xs ys) where
   heard-equal : (sign : Sign) (wp : Bool) (c : State) (m : Control) (n : ℕ) (g : Sent)
       → Counts sign n (c .wire .frame .bits) → elsewhere a g ≡ true
       → Beside a (heardBy sign wp xs c) (heardBy sign wp ys c)
-      (sentBy sign xs (withControl (c .device) m) g) (sentBy sign ys (withControl (c .device) m) g)
+      (sentBy (sees sign) xs (withControl (c .device) m) g) (sentBy (sees sign) ys (withControl (c .device) m) g)
   unfolding ninthOf
   heard-equal Quiet wp c m n g i e = equal refl refl e
   heard-equal Start wp c m n g i e = equal refl refl refl
@@ -166,9 +166,9 @@ module _ {a : ℕ} {xs ys : List ℕ} (but : EqualBut a xs ys) where
 
   -- Equal states are beside each other after rule 3 or 4.
   goes-equal : (r : Bool) (e level : ℕ) (s : State) (g : Sent) → elsewhere a g ≡ true
-      → Beside a (goesOnBy r level xs (opensOf e level s)) (goesOnBy r level ys (opensOf e level s))
-      (heardSent r (signIn level (opensOf e level s)) xs (s .device) g)
-      (heardSent r (signIn level (opensOf e level s)) ys (s .device) g)
+      → Beside a (goesOnBy (seenBy r (signIn level (opensOf e level s))) level xs (opensOf e level s)) (goesOnBy (seenBy r (signIn level (opensOf e level s))) level ys (opensOf e level s))
+      (sentBy (seenBy r (signIn level (opensOf e level s))) xs (s .device) g)
+      (sentBy (seenBy r (signIn level (opensOf e level s))) ys (s .device) g)
   unfolding opensOf signIn wiredOf signOf wireOf
   goes-equal true e level s g f = equal refl refl refl
   goes-equal false e level s g f =
@@ -180,7 +180,7 @@ module _ {a : ℕ} {xs ys : List ℕ} (but : EqualBut a xs ys) where
   -- Equal states are beside each other after a sample.
   pub step-equal : (e level : ℕ) (s : State) (g : Sent) → elsewhere a g ≡ true
       → Beside a (stepOf e level xs s) (stepOf e level ys s) (sentOf e level (partOf s xs) g) (sentOf e level (partOf s ys) g)
-  unfolding stepOf sentOf
+  unfolding stepOf sentOf seenOf
   step-equal e level s g f = goes-equal (opensOf e level s .timers .reset) e level s g f
 
 module _ {a : ℕ} {xs ys : List ℕ} (but : EqualBut a xs ys)
@@ -188,8 +188,8 @@ module _ {a : ℕ} {xs ys : List ℕ} (but : EqualBut a xs ys)
   -- States that send an equal bit are beside each other after every sign.
   heard-apart : (sign : Sign) (wp : Bool) (c : State) (m : Control) → Counts sign n (c .wire .frame .bits)
       → Beside a (heardBy sign wp xs (sendingState c b (shifted n v))) (heardBy sign wp ys (sendingState c b (shifted n w)))
-      (sentBy sign xs (withControl (sendingState c b (shifted n v) .device) m) (sends a v n))
-      (sentBy sign ys (withControl (sendingState c b (shifted n w) .device) m) (sends a w n))
+      (sentBy (sees sign) xs (withControl (sendingState c b (shifted n v) .device) m) (sends a v n))
+      (sentBy (sees sign) ys (withControl (sendingState c b (shifted n w) .device) m) (sends a w n))
   unfolding ninthOf bitOf byteStep byteOf keptOf startOf stopOf startedOf stoppedOf
   heard-apart Quiet wp c m i =
       apart record {
@@ -226,11 +226,11 @@ module _ {a : ℕ} {xs ys : List ℕ} (but : EqualBut a xs ys)
   -- They are after rule 3 or 4.
   goes-apart : (r : Bool) (e level : ℕ) (s : State) → s .wire .frame .bits ≡ n
       → Beside a
-      (goesOnBy r level xs (opensOf e level (sendingState s b (shifted n v))))
-      (goesOnBy r level ys (opensOf e level (sendingState s b (shifted n w))))
-      (heardSent r (signIn level (opensOf e level (sendingState s b (shifted n v)))) xs
+      (goesOnBy (seenBy r (signIn level (opensOf e level (sendingState s b (shifted n v))))) level xs (opensOf e level (sendingState s b (shifted n v))))
+      (goesOnBy (seenBy r (signIn level (opensOf e level (sendingState s b (shifted n w))))) level ys (opensOf e level (sendingState s b (shifted n w))))
+      (sentBy (seenBy r (signIn level (opensOf e level (sendingState s b (shifted n v))))) xs
       (sendingState s b (shifted n v) .device) (sends a v n))
-      (heardSent r (signIn level (opensOf e level (sendingState s b (shifted n w)))) ys
+      (sentBy (seenBy r (signIn level (opensOf e level (sendingState s b (shifted n w))))) ys
       (sendingState s b (shifted n w) .device) (sends a w n))
   unfolding opensOf signIn wiredOf signOf wireOf resetOf endedOf
   goes-apart true e level s i = equal refl refl refl
@@ -246,5 +246,5 @@ module _ {a : ℕ} {xs ys : List ℕ} (but : EqualBut a xs ys)
       → Beside a (stepOf e level xs (sendingState s b (shifted n v))) (stepOf e level ys (sendingState s b (shifted n w)))
       (sentOf e level (partOf (sendingState s b (shifted n v)) xs) (sends a v n))
       (sentOf e level (partOf (sendingState s b (shifted n w)) ys) (sends a w n))
-  unfolding stepOf sentOf opensOf
+  unfolding stepOf sentOf opensOf seenOf
   step-apart e level s i = goes-apart (opensOf e level s .timers .reset) e level s i

@@ -25,7 +25,7 @@ use Rattle.wire.specs.declared.Sign.{Sign}
 use Rattle.wire.specs.declared.Sign.the-variants.{Quiet, Start, Stop, Bit, Byte, Ninth}
 use Rattle.device.specs.Bytes.{takenOf, keptBy, expectsData, keptOf}
 use Rattle.sample.specs.Level.{wpOf}
-use Rattle.sample.specs.Sample.{opensOf, resetOf, startOf, stopOf, byteStep, heardBy, savedBy, writtenBy, signIn, wiredOf, goesOnBy, stepOf, keepsBy, arrayOf}
+use Rattle.sample.specs.Sample.{opensOf, resetOf, startOf, stopOf, byteStep, heardBy, savedBy, writtenBy, signIn, wiredOf, Seen, unseen, sees, seenBy, seenOf, goesOnBy, stepOf, keepsBy, arrayOf}
 use Rattle.demand3.specs.Differ.{coversBy, covers, EqualBut, FullLoad, silenced}
 
 -- A mark that is set is one of the marks.
@@ -96,12 +96,12 @@ written-kept (Byte v) s w e = e
 written-kept (Ninth b) s w e = e
 
 -- So they do by rule 3 or 4.
-keeps-kept : {a : ℕ} {xs ys : List ℕ} (b : Bool) (level : ℕ) (s : State) → FullLoad s → EqualBut a xs ys
-    → EqualBut a (keepsBy b level xs s) (keepsBy b level ys s)
+keeps-kept : {a : ℕ} {xs ys : List ℕ} (x : Seen) (level : ℕ) (s : State) → FullLoad s → EqualBut a xs ys
+    → EqualBut a (keepsBy x level xs s) (keepsBy x level ys s)
 unfolding wiredOf
-keeps-kept true level s w e = e
-keeps-kept false level s w e =
-    written-kept (signIn level s) (wiredOf level s) record { bytes = w .bytes; marks = w .marks } e
+keeps-kept unseen level s w e = e
+keeps-kept (sees sign) level s w e =
+    written-kept sign (wiredOf level s) record { bytes = w .bytes; marks = w .marks } e
 
 -- Arrays equal but for an address stay so in a sample of one state.
 pub arrays-kept : {a : ℕ} {xs ys : List ℕ} (e level : ℕ) (s : State) → FullLoad s → EqualBut a xs ys
@@ -109,11 +109,11 @@ pub arrays-kept : {a : ℕ} {xs ys : List ℕ} (e level : ℕ) (s : State) → F
 unfolding arrayOf opensOf
 arrays-kept e level s w b =
     let o : State = opensOf e level s in
-    keeps-kept (o .timers .reset) level o record { bytes = w .bytes; marks = w .marks } b
+    keeps-kept (seenOf level o) level o record { bytes = w .bytes; marks = w .marks } b
 
 module _ {a : ℕ} {xs ys : List ℕ} (e level : ℕ) (s : State) (w : FullLoad s) (but : EqualBut a xs ys) where
   -- A sign whose write covers the address makes the arrays equal.
-  written-equal : (sign : Sign) → coversBy false sign a s ≡ true
+  written-equal : (sign : Sign) → coversBy (sees sign) a s ≡ true
       → writtenBy sign (wiredOf level (opensOf e level s)) xs ≡ writtenBy sign (wiredOf level (opensOf e level s)) ys
   unfolding wiredOf opensOf
   written-equal Quiet c = absurd (true≢false (sym c))
@@ -124,16 +124,15 @@ module _ {a : ℕ} {xs ys : List ℕ} (e level : ℕ) (s : State) (w : FullLoad 
   written-equal (Ninth b) c = absurd (true≢false (sym c))
 
   -- So it does by rule 3 or 4.
-  keeps-equal : (r : Bool) → coversBy r (signIn level (opensOf e level s)) a s ≡ true
-      → keepsBy r level xs (opensOf e level s) ≡ keepsBy r level ys (opensOf e level s)
-  keeps-equal true c = absurd (true≢false (sym c))
-  keeps-equal false c = written-equal (signIn level (opensOf e level s)) c
+  keeps-equal : (x : Seen) → coversBy x a s ≡ true → keepsBy x level xs (opensOf e level s) ≡ keepsBy x level ys (opensOf e level s)
+  keeps-equal unseen c = absurd (true≢false (sym c))
+  keeps-equal (sees sign) c = written-equal sign c
 
   -- A sample whose write covers the address makes the arrays equal.
   pub arrays-equal : covers a e level record { state = s; array = xs } ≡ true
       → arrayOf e level xs s ≡ arrayOf e level ys s
   unfolding arrayOf covers
-  arrays-equal c = keeps-equal (opensOf e level s .timers .reset) c
+  arrays-equal c = keeps-equal (seenOf level (opensOf e level s)) c
 
 -- The byte being sent does not count for what a sign writes.
 written-silent : (sign : Sign) (e level : ℕ) (s : State) (xs : List ℕ)
@@ -148,16 +147,15 @@ written-silent (Byte v) e level s xs = refl
 written-silent (Ninth b) e level s xs = refl
 
 -- Nor does it by rule 3 or 4.
-keeps-silent : (r : Bool) (e level : ℕ) (s : State) (xs : List ℕ)
-    → keepsBy r level xs (opensOf e level s) ≡ keepsBy r level xs (opensOf e level (silenced s))
-unfolding opensOf signIn
-keeps-silent true e level s xs = refl
-keeps-silent false e level s xs = written-silent (signIn level (opensOf e level s)) e level s xs
+keeps-silent : (x : Seen) (e level : ℕ) (s : State) (xs : List ℕ)
+    → keepsBy x level xs (opensOf e level s) ≡ keepsBy x level xs (opensOf e level (silenced s))
+keeps-silent unseen e level s xs = refl
+keeps-silent (sees sign) e level s xs = written-silent sign e level s xs
 
 -- The byte being sent does not count for the array after a sample.
 pub array-silent : (e level : ℕ) (s : State) (xs : List ℕ) → arrayOf e level xs s ≡ arrayOf e level xs (silenced s)
-unfolding arrayOf opensOf
-array-silent e level s xs = keeps-silent (opensOf e level s .timers .reset) e level s xs
+unfolding arrayOf opensOf seenOf signIn
+array-silent e level s xs = keeps-silent (seenOf level (opensOf e level s)) e level s xs
 
 -- What holds of a load, and of it with a byte put in, holds after a byte that is taken or not.
 taken-load : (P : Load → Type 0) (b : Bool) (d : Device) (v : ℕ) (l : Load) → P l → P (filledOf l (d .counter) v)
@@ -197,15 +195,15 @@ heard-whole (Byte v) wp xs s w =
 heard-whole (Ninth b) wp xs s w = record { bytes = w .bytes; marks = w .marks }
 
 -- It stays whole by rule 3 or 4.
-goes-whole : (r : Bool) (level : ℕ) (xs : List ℕ) (s : State) → FullLoad s → FullLoad (goesOnBy r level xs s)
+goes-whole : (x : Seen) (level : ℕ) (xs : List ℕ) (s : State) → FullLoad s → FullLoad (goesOnBy x level xs s)
 unfolding resetOf wiredOf
-goes-whole true level xs s w = record { bytes = refl; marks = refl }
-goes-whole false level xs s w =
-    heard-whole (signIn level s) (wpOf level) xs (wiredOf level s) record { bytes = w .bytes; marks = w .marks }
+goes-whole unseen level xs s w = record { bytes = refl; marks = refl }
+goes-whole (sees sign) level xs s w =
+    heard-whole sign (wpOf level) xs (wiredOf level s) record { bytes = w .bytes; marks = w .marks }
 
 -- A load stays whole in a sample.
 pub whole-kept : (e level : ℕ) (xs : List ℕ) (s : State) → FullLoad s → FullLoad (stepOf e level xs s)
 unfolding stepOf opensOf
 whole-kept e level xs s w =
     let o : State = opensOf e level s in
-    goes-whole (o .timers .reset) level xs o record { bytes = w .bytes; marks = w .marks }
+    goes-whole (seenOf level o) level xs o record { bytes = w .bytes; marks = w .marks }

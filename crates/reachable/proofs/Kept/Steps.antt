@@ -16,11 +16,11 @@ use Rattle.part.specs.declared.state.State.{State}
 use Rattle.wire.specs.Sign.{wireOf}
 use Rattle.wire.specs.declared.Sign.{Sign}
 use Rattle.wire.specs.declared.Sign.the-variants.{Quiet, Start, Stop, Bit, Byte, Ninth}
-use Rattle.part.specs.State.{withControl, withWire}
+use Rattle.part.specs.State.{withControl, withWire, withTimers, withDevice, withLoad}
 use Rattle.device.specs.Bytes.{byteOf, keptOf, bitOf, ninthOf}
 use Rattle.device.specs.Ends.{startedOf, dropped, stoppedOf, endedOf}
 use Rattle.sample.specs.Level.{sclOf, sdaOf, wpOf, vccOf}
-use Rattle.sample.specs.Sample.{latchedBy, opensOf, resetOf, startOf, stopOf, byteStep, heardBy, lineOf, signIn, wiredOf, goesOnBy, stepOf}
+use Rattle.sample.specs.Sample.{latchedBy, opensOf, resetOf, startOf, stopOf, byteStep, heardBy, lineOf, signIn, wiredOf, seenBy, seenOf, goesOnBy, stepOf}
 use Rattle.ranges.proofs.Signs.{Saw, saw}
 use Rattle.reachable.proofs.Kept.Talks.{Talks, fresh, start-talks, stop-talks}
 use Rattle.reachable.proofs.Kept.Falls.{bit-talks, byte-talks, ninth-talks}
@@ -33,7 +33,7 @@ pub record Sits (s : State) : Type 0 where
 -- A fall of SCL keeps it where its device and load do.
 fallen : (s : State) (w : Wire) (d : Device) (l : Load) → w .lines .scl ≡ false
     → Talks (kindOf (s .chip .part)) (w .frame .bits) d l
-    → Sits (record { part = s .chip .part; select = s .chip .select; timers = s .timers; wire = w; device = d; load = l })
+    → Sits (withLoad (withDevice (withWire s w) d) l)
 fallen s w d l c t = record { talks = t; line = λ x y. cc }
 
 -- Each sign keeps it, on a wire as the sign says and with own SDA low seen on it.
@@ -83,19 +83,11 @@ wired-sits level array s g =
 
 -- The state after rules 1 and 2, with the supply and the timers after rule 1.
 abbrev opened : Bool → Timers → State → State
-opened v t s =
-    record {
-      part = s .chip .part;
-      select = s .chip .select;
-      timers = suppliedOf v t;
-      wire = s .wire;
-      device = withControl (s .device) (latchedBy v (s .device .control));
-      load = s .load;
-    }
+opened v t s = withDevice (withTimers s (suppliedOf v t)) (withControl (s .device) (latchedBy v (s .device .control)))
 
 -- Rules 3 and 4, by whether reset is active: with low VCC it is.
 opened-sits : (b v : Bool) (t : Timers) (level : ℕ) (array : List ℕ) (s : State) → opened v t s .timers .reset ≡ b
-    → Sits s → Sits (goesOnBy b level array (opened v t s))
+    → Sits s → Sits (goesOnBy (seenBy b (signIn level (opened v t s))) level array (opened v t s))
 unfolding suppliedOf resetOf endedOf
 opened-sits true v t level array s e g =
     record {
@@ -110,7 +102,7 @@ opened-sits false false t level array s e g = absurd (true≢false e)
 
 -- A sample keeps it.
 pub step-sits : (e level : ℕ) (array : List ℕ) (s : State) → Sits s → Sits (stepOf e level array s)
-unfolding stepOf opensOf
+unfolding stepOf opensOf seenOf
 step-sits e level array s g =
     opened-sits (opensOf e level s .timers .reset) (vccOf level) (timedOf (s .device .control .stored) e (s .timers)) level
     array s refl g
