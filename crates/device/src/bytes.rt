@@ -10,7 +10,7 @@ use part::state::Phase;
 ghost use mathlib.Core.Path.{_≡_};
 ghost use mathlib.Core.Bool.{Bool};
 ghost use Rattle.device.specs.Talk.{withTalk, pends, nonePends, rested};
-ghost use Rattle.device.specs.Bytes.{takenOf, dataBy, registerBy, registerSent, byteOf, keptOf};
+ghost use Rattle.device.specs.Bytes.{takenOf, dataBy, registerBy, registerSent, byteOf, keptOf, Fills};
 
 // A register byte pends.
 fn pend(c: Control, value: u8) -> Control
@@ -117,27 +117,24 @@ pub fn byte(kind: Kind, select: u8, d: Device, v: u8) -> Device
     }
 }
 
+// Whether a byte goes into the page load: array data that is taken.
+pub fn fills(kind: Kind, d: Device) -> bool
+    ensures { λ r. ⌜ Fills kind d r ⌝ }
+{
+    let talk = d.talk;
+    let phase = talk.phase;
+    let Phase::Data = phase else {
+        return false;
+    };
+    taken(kind, d)
+}
+
 // The page load after a byte.
 pub fn kept(kind: Kind, d: Device, v: u8, load: Load) -> Load
     ensures { λ r. ⌜ r ≡ keptOf kind d v load ⌝ }
 {
-    let talk = d.talk;
-    let phase = talk.phase;
-    match phase {
-        Phase::Data => {
-            if taken(kind, d) {
-                page::filled(load, d.counter, v)
-            } else {
-                load
-            }
-        }
-        Phase::Idle => load,
-        Phase::Silent => load,
-        Phase::Slave => load,
-        Phase::High => load,
-        Phase::Low => load,
-        Phase::Register => load,
-        Phase::Send => load,
-        Phase::SendRegister => load,
+    if fills(kind, d) {
+        return page::filled(load, d.counter, v);
     }
+    load
 }

@@ -1,105 +1,20 @@
 -- `device::bytes::kept` meets its contract.
-use Rattle.device.specs.Bytes.{keptOf, takenOf}
+use mathlib.Core.Path.{sym}
 use borrow.Author.Needs.{needs}
 use Rattle.device.proofs.bytes.kept.Statement.{statement}
 use Rattle.device.proofs.bytes.kept.Tie as tie
 
-enum-told : tie.Need-enum-told
-enum-told c = search needs
-
-taken-requires : tie.Need-taken-requires
-taken-requires c κs = search needs
+fills-requires : tie.Need-fills-requires
+fills-requires c κs = search needs
 
 filled-requires : tie.Need-filled-requires
 filled-requires c κs = search needs
 
-enum-told-2 : tie.Need-enum-told-2
-enum-told-2 c = search needs
-
-enum-told-3 : tie.Need-enum-told-3
-enum-told-3 c = search needs
-
-enum-told-4 : tie.Need-enum-told-4
-enum-told-4 c = search needs
-
-enum-told-5 : tie.Need-enum-told-5
-enum-told-5 c = search needs
-
-enum-told-6 : tie.Need-enum-told-6
-enum-told-6 c = search needs
-
-enum-told-7 : tie.Need-enum-told-7
-enum-told-7 c = search needs
-
-enum-told-8 : tie.Need-enum-told-8
-enum-told-8 c = search needs
-
-enum-told-9 : tie.Need-enum-told-9
-enum-told-9 c = search needs
-
 returns : tie.Need-returns
-unfolding keptOf takenOf
-returns c =
-    rw (c .filled .ensures, c .before .before .before .enum-told .given .1, ← c .before .before .taken .ensures, c .before .if1 .taken)
+returns c = rw (c .filled .ensures, c .before .before .fills .ensures, c .before .if1 .taken)
 
 returns-2 : tie.Need-returns-2
-unfolding keptOf takenOf
-returns-2 c = rw (c .before .before .enum-told .given .1, ← c .before .taken .ensures, c .if1 .left)
-
-returns-3 : tie.Need-returns-3
-unfolding keptOf
-returns-3 c = rw (c .enum-told2 .given .1)
-
-returns-4 : tie.Need-returns-4
-unfolding keptOf
-returns-4 c = rw (c .enum-told3 .given .1)
-
-returns-5 : tie.Need-returns-5
-unfolding keptOf
-returns-5 c = rw (c .enum-told4 .given .1)
-
-returns-6 : tie.Need-returns-6
-unfolding keptOf
-returns-6 c = rw (c .enum-told5 .given .1)
-
-returns-7 : tie.Need-returns-7
-unfolding keptOf
-returns-7 c = rw (c .enum-told6 .given .1)
-
-returns-8 : tie.Need-returns-8
-unfolding keptOf
-returns-8 c = rw (c .enum-told7 .given .1)
-
-returns-9 : tie.Need-returns-9
-unfolding keptOf
-returns-9 c = rw (c .enum-told8 .given .1)
-
-returns-10 : tie.Need-returns-10
-unfolding keptOf
-returns-10 c = rw (c .enum-told9 .given .1)
+returns-2 c = rw (c .before .fills .ensures, c .if1 .left)
 
 pub kept-spec : {M : Type 1} → statement M
-kept-spec =
-    tie.close
-    (tie.spec
-    enum-told
-    taken-requires
-    filled-requires
-    enum-told-2
-    enum-told-3
-    enum-told-4
-    enum-told-5
-    enum-told-6
-    enum-told-7
-    enum-told-8
-    enum-told-9
-    returns
-    returns-2
-    returns-3
-    returns-4
-    returns-5
-    returns-6
-    returns-7
-    returns-8
-    returns-9
-    returns-10)
+kept-spec = tie.close (tie.spec fills-requires filled-requires returns returns-2)
