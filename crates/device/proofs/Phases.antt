@@ -10,7 +10,7 @@ use Rattle.part.specs.declared.state.Phase.the-variants.{Idle, Silent, Slave, H
 use Rattle.part.specs.declared.state.Device.{Device}
 use Rattle.part.specs.declared.state.Load.{Load}
 use Rattle.part.specs.State.{withTalk}
-use Rattle.device.specs.Talk.{released, rested}
+use Rattle.device.specs.Talk.{released, rested, sendsIn}
 use Rattle.device.specs.Bytes.{slaveOf, highOf, lowOf, takenOf, dataBy, registerBy, registerSent, byteIn, byteOf, keptBy, expectsData, keptOf, nextBit, bitIn, bitOf, fetchRegister, answeredBy, ninthIn, ninthOf}
 
 -- The five phases in which a byte is heard.
@@ -25,24 +25,12 @@ hears Register = true
 hears Send = false
 hears SendRegister = false
 
--- The two phases in which a byte is sent.
-abbrev pub sends : Phase → Bool
-sends Idle = false
-sends Silent = false
-sends Slave = false
-sends High = false
-sends Low = false
-sends Data = false
-sends Register = false
-sends Send = true
-sends SendRegister = true
-
 -- True is not false.
 apart : true ≡ false → ⊥
 apart e = let z : _≡_ {A = ℕ} 0 1 = cc in omega arith
 
 -- A bit by phase, where nothing is sent.
-bit-none : (p : Phase) (d : Device) → sends p ≡ false → bitIn p d ≡ d
+bit-none : (p : Phase) (d : Device) → sendsIn p ≡ false → bitIn p d ≡ d
 bit-none Idle d h = refl
 bit-none Silent d h = refl
 bit-none Slave d h = refl
@@ -54,12 +42,12 @@ bit-none Send d h = absurd (apart h)
 bit-none SendRegister d h = absurd (apart h)
 
 -- A bit changes nothing but in the phases that send.
-pub bit-stays : (d : Device) → sends (d .talk .phase) ≡ false → bitOf d ≡ d
+pub bit-stays : (d : Device) → sendsIn (d .talk .phase) ≡ false → bitOf d ≡ d
 unfolding bitOf
 bit-stays d h = bit-none (d .talk .phase) d h
 
 -- A bit by phase, where a byte is sent.
-bit-next : (p : Phase) (d : Device) → sends p ≡ true → bitIn p d ≡ nextBit p d
+bit-next : (p : Phase) (d : Device) → sendsIn p ≡ true → bitIn p d ≡ nextBit p d
 bit-next Idle d h = absurd (apart (sym h))
 bit-next Silent d h = absurd (apart (sym h))
 bit-next Slave d h = absurd (apart (sym h))
@@ -71,7 +59,7 @@ bit-next Send d h = refl
 bit-next SendRegister d h = refl
 
 -- In the phases that send, a bit brings the next bit out.
-pub bit-sent : (d : Device) → sends (d .talk .phase) ≡ true → bitOf d ≡ nextBit (d .talk .phase) d
+pub bit-sent : (d : Device) → sendsIn (d .talk .phase) ≡ true → bitOf d ≡ nextBit (d .talk .phase) d
 unfolding bitOf
 bit-sent d h = bit-next (d .talk .phase) d h
 

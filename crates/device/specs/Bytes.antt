@@ -1,9 +1,10 @@
 -- What a bit, a byte and a ninth bit do, phase by phase (document 01, Bytes on the wire; Control register).
-use Prim.Native.Nat.{ℕ, _*_, _%_}
+use Prim.Native.Nat.{ℕ}
 use mathlib.Core.Bool.{Bool, true, false, not, _&&_}
 use mathlib.Core.List.{List}
+use mathlib.Core.Path.{_≡_}
 use lib.Dec.{eqb}
-use Rattle.ground.specs.Numbers.{registerAddress, byteValues}
+use Rattle.ground.specs.Numbers.{registerAddress}
 use Rattle.ground.specs.Cases.{odd}
 use Rattle.part.specs.Lock.{lockedOf}
 use Rattle.part.specs.Page.{placeOf, nextInPage, nextInArray, byteAt, filledOf}
@@ -15,7 +16,7 @@ use Rattle.part.specs.declared.state.Device.{Device}
 use Rattle.part.specs.declared.state.Load.{Load}
 use Rattle.control.specs.Register.{readsOf}
 use Rattle.part.specs.State.{withTalk, withCounter, withControl, withChosen}
-use Rattle.device.specs.Talk.{pends, nonePends, acknowledged, rested, released, sending, addressOf, matches}
+use Rattle.device.specs.Talk.{pends, nonePends, acknowledged, rested, released, sending, shiftedOf, addressOf, matches}
 
 -- A slave byte by cases: a match, a read, the register chosen; no match is silence (Bytes on the wire, after a start).
 abbrev pub slaveBy : Bool → Bool → Bool → Device → Device
@@ -96,9 +97,13 @@ expectsData SendRegister = false
 unfoldable pub keptOf : Kind → Device → ℕ → Load → Load
 keptOf k d v l = keptBy (expectsData (d .talk .phase) && takenOf k d) d v l
 
+-- Whether a byte goes into the load: filled if so, and left as it was if not (Bytes on the wire, array data).
+abbrev pub Fills : Kind → Device → Bool → Type 0
+Fills k d b = (v : ℕ) (l : Load) → keptOf k d v l ≡ keptBy b d v l
+
 -- The next bit of a byte being sent goes out, in a phase that sends (Bytes on the wire, read: one bit per fall).
 abbrev pub nextBit : Phase → Device → Device
-nextBit p d = withTalk d (sending p (d .talk .out * 2 % byteValues))
+nextBit p d = withTalk d (sending p (shiftedOf (d .talk .out)))
 
 -- A fall that commits a bit below the eighth, by phase (Bytes on the wire, read).
 abbrev pub bitIn : Phase → Device → Device

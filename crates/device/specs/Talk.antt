@@ -1,11 +1,12 @@
 -- What the tables of `Bytes` and `Ends` are made of (document 01, Bytes on the wire; Control register).
-use Prim.Native.Nat.{ℕ, _+_, _*_, _/_}
+use Prim.Native.Nat.{ℕ, _+_, _*_, _/_, _%_}
 use mathlib.Core.Bool.{Bool, true, false, _&&_}
 use lib.Dec.{eqb}
 use Rattle.ground.specs.Numbers.{byteValues, slaveCode}
 use Rattle.ground.specs.Cases.{highest, middle}
 use Rattle.part.specs.State.{withOwn, withPending}
 use Rattle.part.specs.declared.state.Phase.{Phase}
+use Rattle.part.specs.declared.state.Phase.the-variants.{Idle, Silent, Slave, High, Low, Data, Register, Send, SendRegister}
 use Rattle.part.specs.declared.state.BusAddress.{BusAddress}
 use Rattle.part.specs.declared.state.Talk.{Talk}
 use Rattle.part.specs.declared.state.Control.{Control}
@@ -30,6 +31,22 @@ rested p = record { phase = p; high = 0; out = 0; own = true }
 -- An acknowledge ends: SDA is released, all else stays (Bytes on the wire, to the ninth fall).
 abbrev pub released : Talk → Talk
 released t = withOwn t true
+
+-- Whether a byte is being sent in a phase (Bytes on the wire, read).
+abbrev pub sendsIn : Phase → Bool
+sendsIn Idle = false
+sendsIn Silent = false
+sendsIn Slave = false
+sendsIn High = false
+sendsIn Low = false
+sendsIn Data = false
+sendsIn Register = false
+sendsIn Send = true
+sendsIn SendRegister = true
+
+-- The byte being sent, one bit on (Bytes on the wire, read: one bit per fall).
+abbrev pub shiftedOf : ℕ → ℕ
+shiftedOf out = out * 2 % byteValues
 
 -- A byte being sent: its highest bit is out (Bytes on the wire, read).
 abbrev pub sending : Phase → ℕ → Talk

@@ -7,8 +7,9 @@ use part::state::Phase;
 use part::state::Talk;
 ghost use mathlib.Core.Path.{_≡_};
 ghost use mathlib.Core.Bool.{Bool};
+ghost use Rattle.ground.specs.Cases.{highest};
 ghost use Rattle.part.specs.State.{withTalk};
-ghost use Rattle.device.specs.Talk.{released, sending};
+ghost use Rattle.device.specs.Talk.{released, sending, sendsIn, shiftedOf};
 ghost use Rattle.device.specs.Bytes.{nextBit, bitOf, fetchRegister, answeredBy, ninthOf};
 
 fn release(t: Talk) -> Talk
@@ -19,6 +20,37 @@ fn release(t: Talk) -> Talk
     next
 }
 
+// Whether a byte is being sent in a phase.
+pub fn sends(phase: Phase) -> bool
+    ensures { λ r. ⌜ r ≡ sendsIn phase ⌝ }
+{
+    match phase {
+        Phase::Send => true,
+        Phase::SendRegister => true,
+        Phase::Idle => false,
+        Phase::Silent => false,
+        Phase::Slave => false,
+        Phase::High => false,
+        Phase::Low => false,
+        Phase::Data => false,
+        Phase::Register => false,
+    }
+}
+
+// The byte being sent, one bit on.
+pub fn shifted(out: u8) -> u8
+    ensures { λ r. ⌜ r ≡ shiftedOf out ⌝ }
+{
+    ((out as u16) * 2 % 256) as u8
+}
+
+// The bit of it that goes out.
+pub fn top(out: u8) -> bool
+    ensures { λ r. ⌜ r ≡ highest out ⌝ }
+{
+    out / 128 % 2 == 1
+}
+
 // A byte is being sent: its highest bit is out.
 fn send(phase: Phase, v: u8) -> Talk
     ensures { λ r. ⌜ r ≡ sending phase v ⌝ }
@@ -27,7 +59,7 @@ fn send(phase: Phase, v: u8) -> Talk
         phase,
         high: 0,
         out: v,
-        own: v / 128 % 2 == 1,
+        own: top(v),
     }
 }
 
@@ -35,7 +67,7 @@ fn next_bit(phase: Phase, d: Device) -> Device
     ensures { λ r. ⌜ r ≡ nextBit phase d ⌝ }
 {
     let talk = d.talk;
-    let v = ((talk.out as u16) * 2 % 256) as u8;
+    let v = shifted(talk.out);
     let t = send(phase, v);
     let mut next = d;
     next.talk = t;
@@ -48,17 +80,10 @@ pub fn bit(d: Device) -> Device
 {
     let talk = d.talk;
     let phase = talk.phase;
-    match phase {
-        Phase::Send => next_bit(phase, d),
-        Phase::SendRegister => next_bit(phase, d),
-        Phase::Idle => d,
-        Phase::Silent => d,
-        Phase::Slave => d,
-        Phase::High => d,
-        Phase::Low => d,
-        Phase::Data => d,
-        Phase::Register => d,
+    if sends(phase) {
+        return next_bit(phase, d);
     }
+    d
 }
 
 fn heard(d: Device) -> Device

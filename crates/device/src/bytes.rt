@@ -11,7 +11,7 @@ ghost use mathlib.Core.Path.{_≡_};
 ghost use mathlib.Core.Bool.{Bool};
 ghost use Rattle.part.specs.State.{withTalk};
 ghost use Rattle.device.specs.Talk.{pends, nonePends, rested};
-ghost use Rattle.device.specs.Bytes.{takenOf, dataBy, registerBy, registerSent, byteOf, keptBy, expectsData};
+ghost use Rattle.device.specs.Bytes.{takenOf, dataBy, registerBy, registerSent, byteOf, keptBy, expectsData, Fills};
 
 // A register byte pends.
 fn pend(c: Control, value: u8) -> Control
@@ -117,6 +117,18 @@ pub fn byte(kind: Kind, select: u8, d: Device, v: u8) -> Device
         Phase::Send => sent(d),
         Phase::SendRegister => register_sent(d),
     }
+}
+
+// Whether a byte goes into the page load: array data that is taken.
+pub fn fills(kind: Kind, d: Device) -> bool
+    ensures { λ r. ⌜ Fills kind d r ⌝ }
+{
+    let talk = d.talk;
+    let phase = talk.phase;
+    let Phase::Data = phase else {
+        return false;
+    };
+    taken(kind, d)
 }
 
 // The page load after an array byte that is taken, or is not.

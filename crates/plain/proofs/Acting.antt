@@ -26,7 +26,8 @@ use Rattle.control.specs.declared.Order.the-variants.{Nothing}
 use Rattle.device.specs.Talk.{nonePends}
 use Rattle.device.specs.Bytes.{takenOf, byteOf, keptOf, bitOf, ninthOf}
 use Rattle.device.specs.Ends.{startPhase, startedOf, dropped, stoppedOf}
-use Rattle.sample.specs.Sample.{watched, startOf, heardBy, writtenBy, stopOf, byteStep}
+use Rattle.part.specs.State.{withWatchdog}
+use Rattle.sample.specs.Sample.{startOf, heardBy, writtenBy, stopOf, byteStep}
 use Rattle.plain.specs.Goes.{movedOf}
 use Rattle.plain.specs.Tests.{wayOf, Calm}
 use Rattle.plain.proofs.Ways.{bit-by, byte-by, load-by, ninth-by, way-two, way-three}
@@ -115,8 +116,8 @@ module _ (s : State) (array : List ℕ) (wp : Bool) (w : Wire) (f : Phase) (high
   -- A start in a calm state loads the watchdog besides.
   pub start-acts : (t : Timers) → Calm (s .device .control) m
       → heardBy Start wp array (movedOf s t w k p m)
-      ≡ movedOf s (watched (loadedOf (s .device .control .stored)) t) w (talkOf (startPhase (writes t)) 0 0 true) p m
+      ≡ movedOf s (withWatchdog t (loadedOf (s .device .control .stored))) w (talkOf (startPhase (writes t)) 0 0 true) p m
   unfolding startOf startedOf
   start-acts t c =
       rw (c .empty)
-      (ap (λ (x : Control). bare (watched (loadedOf (s .device .control .stored)) t) (talkOf (startPhase (writes t)) 0 0 true) x) (none-pends (s .device .control) (c .settled)))
+      (ap (λ (x : Control). bare (withWatchdog t (loadedOf (s .device .control .stored))) (talkOf (startPhase (writes t)) 0 0 true) x) (none-pends (s .device .control) (c .settled)))

@@ -22,7 +22,7 @@ use Rattle.wire.specs.declared.Sign.{Sign}
 use Rattle.wire.specs.declared.Sign.the-variants.{Start}
 use Rattle.device.specs.Ends.{startPhase}
 use Rattle.sample.specs.Level.{sclOf, sdaOf, wpOf, vccOf, pinBy}
-use Rattle.sample.specs.Sample.{watched}
+use Rattle.part.specs.State.{withWatchdog}
 use Rattle.plain.specs.Goes.{partOf, movedOf}
 use Rattle.plain.specs.Rooms.{Room, timersAt, baseOf}
 use Rattle.plain.specs.Tests.{Calm}
@@ -59,7 +59,7 @@ module _ {s : State} {es ls array row₀ : List ℕ} {from base : ℕ} {calm : B
   begun-anew : (hold write′ : ℕ) (dog : Watchdog) (w′ : Wire) (n : ℕ) → write′ ≡ write - n → dog ≡ loadedOf (s .device .control .stored)
       → partOf (movedOf s (timersAt hold write′ (dog .running) (dog .left) 0) w′ (talkOf (startPhase (ltb 0 write′)) 0 0 true) p m) array
       ≡ partOf
-      (movedOf s (watched (loadedOf (s .device .control .stored)) (timersAt hold write running left n)) w′ (talkOf (startPhase (ltb 0 (write - n))) 0 0 true) p m)
+      (movedOf s (withWatchdog (timersAt hold write running left n) (loadedOf (s .device .control .stored))) w′ (talkOf (startPhase (ltb 0 (write - n))) 0 0 true) p m)
       array
   begun-anew hold write′ dog w′ n u q = rw (begins hold write′ (dog .left) 0 (dog .running) false false refl refl refl, u, q)
 

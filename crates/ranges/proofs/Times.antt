@@ -8,7 +8,8 @@ use Rattle.ground.specs.Numbers.{writeTime, resetHold, longWatch}
 use Rattle.part.specs.Timers.{off, watchTable, watchCode, loadedOf, writeFell, timedBy, timedOf, suppliedOf}
 use Rattle.part.specs.declared.state.Timers.{Timers}
 use Rattle.part.specs.declared.state.Watchdog.{Watchdog}
-use Rattle.sample.specs.Sample.{watched, begun}
+use Rattle.part.specs.State.{withWatchdog}
+use Rattle.sample.specs.Sample.{begun}
 
 -- The three times in their ranges.
 pub record Times (t : Timers) : Type 0 where
@@ -54,7 +55,7 @@ supplied-times true t g = record { write = g .write; hold = g .hold; left = g .l
 supplied-times false t g = record { write = g .write; hold = omega arith; left = g .left }
 
 -- So does a start.
-pub watched-times : (stored : ℕ) (t : Timers) → Times t → Times (watched (loadedOf stored) t)
+pub watched-times : (stored : ℕ) (t : Timers) → Times t → Times (withWatchdog t (loadedOf stored))
 watched-times stored t g = record { write = g .write; hold = g .hold; left = loaded-left stored }
 
 -- So does a write cycle that begins.

@@ -1,99 +1,21 @@
 -- `device::bits::bit` meets its contract.
-use Rattle.device.specs.Bytes.{bitOf}
+use mathlib.Core.Path.{_≡_, sym, _∙_}
 use borrow.Author.Needs.{needs}
+use Rattle.device.proofs.Phases.{bit-stays, bit-sent}
 use Rattle.device.proofs.bits.bit.Statement.{statement}
 use Rattle.device.proofs.bits.bit.Tie as tie
 
-enum-told : tie.Need-enum-told
-enum-told c = search needs
+sends-requires : tie.Need-sends-requires
+sends-requires c κs = search needs
 
 next-bit-requires : tie.Need-next-bit-requires
 next-bit-requires c κs = search needs
 
-enum-told-2 : tie.Need-enum-told-2
-enum-told-2 c = search needs
-
-next-bit-requires-2 : tie.Need-next-bit-requires-2
-next-bit-requires-2 c κs = search needs
-
-enum-told-3 : tie.Need-enum-told-3
-enum-told-3 c = search needs
-
-enum-told-4 : tie.Need-enum-told-4
-enum-told-4 c = search needs
-
-enum-told-5 : tie.Need-enum-told-5
-enum-told-5 c = search needs
-
-enum-told-6 : tie.Need-enum-told-6
-enum-told-6 c = search needs
-
-enum-told-7 : tie.Need-enum-told-7
-enum-told-7 c = search needs
-
-enum-told-8 : tie.Need-enum-told-8
-enum-told-8 c = search needs
-
-enum-told-9 : tie.Need-enum-told-9
-enum-told-9 c = search needs
-
 returns : tie.Need-returns
-unfolding bitOf
-returns c = rw (c .next-bit .ensures, c .before .enum-told .given .1)
+returns c = c .next-bit .ensures ∙ sym (bit-sent _ (sym (c .before .before .sends .ensures) ∙ c .before .if1 .taken))
 
 returns-2 : tie.Need-returns-2
-unfolding bitOf
-returns-2 c = rw (c .next-bit2 .ensures, c .before .enum-told2 .given .1)
-
-returns-3 : tie.Need-returns-3
-unfolding bitOf
-returns-3 c = rw (c .enum-told3 .given .1)
-
-returns-4 : tie.Need-returns-4
-unfolding bitOf
-returns-4 c = rw (c .enum-told4 .given .1)
-
-returns-5 : tie.Need-returns-5
-unfolding bitOf
-returns-5 c = rw (c .enum-told5 .given .1)
-
-returns-6 : tie.Need-returns-6
-unfolding bitOf
-returns-6 c = rw (c .enum-told6 .given .1)
-
-returns-7 : tie.Need-returns-7
-unfolding bitOf
-returns-7 c = rw (c .enum-told7 .given .1)
-
-returns-8 : tie.Need-returns-8
-unfolding bitOf
-returns-8 c = rw (c .enum-told8 .given .1)
-
-returns-9 : tie.Need-returns-9
-unfolding bitOf
-returns-9 c = rw (c .enum-told9 .given .1)
+returns-2 c = sym (bit-stays _ (sym (c .before .sends .ensures) ∙ c .if1 .left))
 
 pub bit-spec : {M : Type 1} → statement M
-bit-spec =
-    tie.close
-    (tie.spec
-    enum-told
-    next-bit-requires
-    enum-told-2
-    next-bit-requires-2
-    enum-told-3
-    enum-told-4
-    enum-told-5
-    enum-told-6
-    enum-told-7
-    enum-told-8
-    enum-told-9
-    returns
-    returns-2
-    returns-3
-    returns-4
-    returns-5
-    returns-6
-    returns-7
-    returns-8
-    returns-9)
+bit-spec = tie.close (tie.spec sends-requires next-bit-requires returns returns-2)
