@@ -17,11 +17,13 @@ use Rattle.twin.specs.declared.replays.Replayed.{Replayed}
 use Rattle.twin.specs.declared.power.Size.{Size}
 use Rattle.twin.specs.Power.{poweredUp, sizeMeant}
 use Rattle.twin.specs.Promises.{PowersUp, Replays, SizesPart}
-use Rattle.image.specs.Form.{imageSize}
+use lib.Dec.{leb}
+use Rattle.image.specs.Form.{largestSize}
 use Rattle.image.specs.Reading.{bad, readingOf}
-use Rattle.image.specs.Promises.{imageOf, writeVerdict, ReadsImage, WritesImage}
+use Rattle.image.specs.Promises.{imageBy, imageOf, writeVerdict, ReadsImage, WritesImage}
 use Rattle.tidying.specs.Shown.{refusalLine, shownOf, Starts}
-use Rattle.door.specs.Promises.{ReplaysOnce, ReadsThrough, WritesThrough}
+use Rattle.telling.specs.Told.{ReadsThrough, WritesThrough}
+use Rattle.door.specs.Promises.{ReplaysOnce}
 
 -- What each operation says and leaves where it refuses: k is the paper's number and p its place (Refusal numbers, last lines).
 pub record Demand1 : Type 0 where
@@ -31,12 +33,12 @@ pub record Demand1 : Type 0 where
   pub replay : (s : State) (es ls array row : List ℕ) (r : Replayed) (array′ row′ : List ℕ) (k p : ℕ)
       → Replays s es ls array row r array′ row′ → judgedOf s es ls array row ≡ refused k p
       → (meant (r .reply) ≡ refused k p) × (r .state ≡ s) × (array′ ≡ array) × (row′ ≡ row)
-  pub read-image : (text array : List ℕ) (r : Reply) (array′ : List ℕ) (k p : ℕ)
-      → ReadsImage text array r array′ → imageOf text array ≡ bad k p → (meant r ≡ refused k p) × (array′ ≡ array)
-  pub write-image : (array out : List ℕ) (r : Reply) (out′ : List ℕ) (k p : ℕ)
-      → WritesImage array out r out′ → writeVerdict array out ≡ refused k p → (meant r ≡ refused k p) × (out′ ≡ out)
-  pub tidy : (text out : List ℕ) (r : ℕ) (out′ : List ℕ) (k p : ℕ)
-      → Starts (shownOf text) out r out′ → readingOf imageSize text ≡ bad k p
+  pub read-image : (size : ℕ) (text array : List ℕ) (r : Reply) (array′ : List ℕ) (k p : ℕ)
+      → ReadsImage size text array r array′ → imageOf size text array ≡ bad k p → (meant r ≡ refused k p) × (array′ ≡ array)
+  pub write-image : (size : ℕ) (array out : List ℕ) (r : Reply) (out′ : List ℕ) (k p : ℕ)
+      → WritesImage size array out r out′ → writeVerdict size array out ≡ refused k p → (meant r ≡ refused k p) × (out′ ≡ out)
+  pub tidy : (size : ℕ) (text out : List ℕ) (r : ℕ) (out′ : List ℕ) (k p : ℕ)
+      → Starts (shownOf size text) out r out′ → imageBy (leb size largestSize) (readingOf size text) ≡ bad k p
       → (r ≡ length (refusalLine k p)) × (out′ ≡ refusalLine k p ++ drop r out)
   pub size : (part : ℕ) (r : Size) → SizesPart part r → known part ≡ false → sizeMeant r ≡ refused 1 0
   pub door-power-up : (part select stored : ℕ) (es ls array row numbers : List ℕ) (r : ℕ) (array′ row′ numbers′ : List ℕ) (k p : ℕ)
@@ -47,11 +49,11 @@ pub record Demand1 : Type 0 where
       → ReplaysOnce part select stored es ls array row numbers r array′ row′ numbers′ → length numbers ≡ 2
       → powerOf part select stored ≡ accepted n → judgedOf (poweredUp part select stored) es ls array row ≡ refused k p
       → (r ≡ 1) × (numbers′ ≡ k ∷ p ∷ []) × (array′ ≡ array) × (row′ ≡ row)
-  pub door-read-image : (text array numbers : List ℕ) (r : ℕ) (array′ numbers′ : List ℕ) (k p : ℕ)
-      → ReadsThrough text array numbers r array′ numbers′ → length numbers ≡ 2 → imageOf text array ≡ bad k p
+  pub door-read-image : (size : ℕ) (text array numbers : List ℕ) (r : ℕ) (array′ numbers′ : List ℕ) (k p : ℕ)
+      → ReadsThrough size text array numbers r array′ numbers′ → length numbers ≡ 2 → imageOf size text array ≡ bad k p
       → (r ≡ 1) × (numbers′ ≡ k ∷ p ∷ []) × (array′ ≡ array)
-  pub door-write-image : (array out numbers : List ℕ) (r : ℕ) (out′ numbers′ : List ℕ) (k p : ℕ)
-      → WritesThrough array out numbers r out′ numbers′ → length numbers ≡ 2 → writeVerdict array out ≡ refused k p
+  pub door-write-image : (size : ℕ) (array out numbers : List ℕ) (r : ℕ) (out′ numbers′ : List ℕ) (k p : ℕ)
+      → WritesThrough size array out numbers r out′ numbers′ → length numbers ≡ 2 → writeVerdict size array out ≡ refused k p
       → (r ≡ 1) × (numbers′ ≡ k ∷ p ∷ []) × (out′ ≡ out)
   -- a replay says a refusal only where the table has it
   pub only : (s : State) (es ls array row : List ℕ) (r : Replayed) (array′ row′ : List ℕ) (k p : ℕ)

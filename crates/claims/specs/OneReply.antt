@@ -11,7 +11,8 @@ use Rattle.twin.specs.declared.replays.Replayed.{Replayed}
 use Rattle.twin.specs.Promises.{PowersUp, Replays, ReadsRegister, SizesPart}
 use Rattle.image.specs.Promises.{ReadsImage, WritesImage}
 use Rattle.tidying.specs.Shown.{shownOf, Starts}
-use Rattle.door.specs.Promises.{ReplaysOnce, ReadsThrough, WritesThrough}
+use Rattle.telling.specs.Told.{ReadsThrough, WritesThrough}
+use Rattle.door.specs.Promises.{ReplaysOnce}
 use Rattle.transfers.specs.declared.Listed.{Listed}
 use Rattle.transfers.specs.Promises.{Lists}
 
@@ -26,14 +27,15 @@ pub record OneReply : Type 0 where
       → OnlyOne (λ ((r, array′, row′) : Replayed × List ℕ × List ℕ). Replays s es ls array row r array′ row′)
   pub register : (s : State) → OnlyOne (ReadsRegister s)
   pub size : (part : ℕ) → OnlyOne (SizesPart part)
-  pub read-image : (text array : List ℕ) → OnlyOne (λ ((r, array′) : Reply × List ℕ). ReadsImage text array r array′)
-  pub write-image : (array out : List ℕ) → OnlyOne (λ ((r, out′) : Reply × List ℕ). WritesImage array out r out′)
-  pub tidy : (text out : List ℕ) → OnlyOne (λ ((r, out′) : ℕ × List ℕ). Starts (shownOf text) out r out′)
+  pub read-image : (size : ℕ) (text array : List ℕ)
+      → OnlyOne (λ ((r, array′) : Reply × List ℕ). ReadsImage size text array r array′)
+  pub write-image : (size : ℕ) (array out : List ℕ) → OnlyOne (λ ((r, out′) : Reply × List ℕ). WritesImage size array out r out′)
+  pub tidy : (size : ℕ) (text out : List ℕ) → OnlyOne (λ ((r, out′) : ℕ × List ℕ). Starts (shownOf size text) out r out′)
   pub door-replay : (part select stored : ℕ) (es ls array row numbers : List ℕ)
       → OnlyOne (λ ((r, array′, row′, numbers′) : ℕ × List ℕ × List ℕ × List ℕ). ReplaysOnce part select stored es ls array row numbers r array′ row′ numbers′)
-  pub door-read-image : (text array numbers : List ℕ)
-      → OnlyOne (λ ((r, array′, numbers′) : ℕ × List ℕ × List ℕ). ReadsThrough text array numbers r array′ numbers′)
-  pub door-write-image : (array out numbers : List ℕ)
-      → OnlyOne (λ ((r, out′, numbers′) : ℕ × List ℕ × List ℕ). WritesThrough array out numbers r out′ numbers′)
+  pub door-read-image : (size : ℕ) (text array numbers : List ℕ)
+      → OnlyOne (λ ((r, array′, numbers′) : ℕ × List ℕ × List ℕ). ReadsThrough size text array numbers r array′ numbers′)
+  pub door-write-image : (size : ℕ) (array out numbers : List ℕ)
+      → OnlyOne (λ ((r, out′, numbers′) : ℕ × List ℕ × List ℕ). WritesThrough size array out numbers r out′ numbers′)
   pub list : (s : State) (es ls array row : List ℕ)
       → OnlyOne (λ ((r, array′, row′) : Listed × List ℕ × List ℕ). Lists s es ls array row r array′ row′)

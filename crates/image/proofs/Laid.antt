@@ -2,23 +2,24 @@
 use Prim.Native.Nat.{ℕ, zero, suc, _+_, _*_, _-_, _/_, _%_, _≤_, _<_}
 use mathlib.Core.Bool.{Bool, true, false}
 use mathlib.Core.List.{List, [], _∷_, _++_, append-assoc}
-use mathlib.Core.Path.{_≡_, refl, _∙_}
+use mathlib.Core.Path.{_≡_, refl, sym, _∙_}
 use native.Mathlib.Omega.{arith}
 use native.Mathlib.Nat.{zero-add}
 use native.Mathlib.Numerals.{add-one}
 use lib.ListN.{length, take, drop, set, length-append, length-drop}
 use lib.Seq.{sets, sets-eq, length-take-le, drop-drop}
-use borrow.Author.Tests.{eq-eqb, ne-eqb, le-leb, lt-leb}
+use borrow.Author.Tests.{le-leb, lt-leb}
 use Rattle.ground.proofs.Rows.{sets-append}
 use Rattle.ground.specs.Verdict.{meant}
 use Rattle.ground.specs.declared.Reply.the-variants.{Accepted, Refused}
 use Rattle.hexfile.specs.Pairs.{textOf, sumOf, checkOf}
 use Rattle.hexfile.specs.Cells.{blankOf}
 use Rattle.hexfile.proofs.PairLaws.{length-textOf}
-use Rattle.image.specs.Form.{imageSize}
+use Rattle.image.specs.Form.{sized}
 use Rattle.image.specs.Writing.{fieldsOf, recordText, rowBy, rowsText, imageText, writtenBy, rowsWritten, lengthOf, mostLength}
 use Rattle.image.specs.Parts.{headOf, tailOf, PutsHead, PutsRow, PutsRows}
 use Rattle.image.specs.Promises.{writeVerdict, WritesImage}
+use Rattle.image.proofs.Sizes.{size-of}
 
 -- The digits of bytes that follow each other.
 pub text-append : (xs bs : List ℕ) → textOf (xs ++ bs) ≡ textOf xs ++ textOf bs
@@ -149,25 +150,23 @@ image-laid array out h =
     sets-eq (imageText array) out 0 k ∙ rw (zero-add, length-image array)
 
 -- The three ends of writing: an array of another size, a buffer that may be too short, and the form written.
-pub refuses-size : (array out : List ℕ) → (length array ≡ imageSize → ⊥) → WritesImage array out (Refused 5 0) out
-unfolding writeVerdict meant
-refuses-size array out h =
-    let e = ne-eqb (length array) imageSize h in
-    record { reply = rw e; said = rw e }
+module _ (size : ℕ) (array out : List ℕ) {b : Bool} (e : b ≡ sized size (length array)) where
+  pub refuses-size : b ≡ false → WritesImage size array out (Refused 5 0) out
+  unfolding writeVerdict meant
+  refuses-size h = let f = sym e ∙ h in record { reply = rw f; said = rw f }
 
-pub refuses-room : (array out : List ℕ) → length array ≡ imageSize → length out < mostLength (length array)
-    → WritesImage array out (Refused 19 0) out
-unfolding writeVerdict meant
-refuses-room array out h k =
-    let e = eq-eqb (length array) imageSize h in
-    let f = lt-leb (mostLength (length array)) (length out) k in
-    record { reply = rw (e, f); said = rw (e, f) }
+  pub refuses-room : b ≡ true → length out < mostLength size → WritesImage size array out (Refused 19 0) out
+  unfolding writeVerdict meant
+  refuses-room h k =
+      let f = sym e ∙ h in
+      let g = lt-leb (mostLength size) (length out) k in
+      record { reply = rw (f, g); said = rw (f, g) }
 
-pub writes : (array out : List ℕ) {r : ℕ} {out′ : List ℕ}
-    → length array ≡ imageSize → mostLength (length array) ≤ length out → PutsRows array out r out′
-    → WritesImage array out (Accepted r) out′
-unfolding writeVerdict meant
-writes array out h k p =
-    let e = eq-eqb (length array) imageSize h in
-    let f = le-leb (mostLength (length array)) (length out) k in
-    record { reply = rw (e, f, p .next); said = rw (e, f) (p .said ∙ image-laid array out k) }
+  pub writes : {r : ℕ} {out′ : List ℕ} → b ≡ true → mostLength size ≤ length out → PutsRows array out r out′
+      → WritesImage size array out (Accepted r) out′
+  unfolding writeVerdict meant
+  writes h k p =
+      let f = sym e ∙ h in
+      let g = le-leb (mostLength size) (length out) k in
+      let m : mostLength (length array) ≤ length out = rw (size-of size (length array) f .0) k in
+      record { reply = rw (f, g, p .next); said = rw (f, g) (p .said ∙ image-laid array out m) }

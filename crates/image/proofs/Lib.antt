@@ -1,3 +1,4 @@
+pub mod Sizes
 pub mod Laid
 pub mod Placed
 pub mod Heard

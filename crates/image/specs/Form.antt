@@ -4,13 +4,16 @@ use mathlib.Core.Bool.{Bool, true, false, _&&_, _||_}
 use mathlib.Core.List.{List}
 use lib.Dec.{eqb, leb}
 use lib.ListN.{length, getD, take, drop}
-use Rattle.ground.specs.Numbers.{x4323, byteValues}
-use Rattle.ground.specs.Kind.{kindOf}
+use Rattle.ground.specs.Numbers.{smallSize, byteValues}
 use Rattle.hexfile.specs.Pairs.{paired, pairsOf}
 
--- The size of the array that an image is for (Refusal numbers, 5).
-abbrev pub imageSize : ℕ
-imageSize = kindOf x4323 .size
+-- The size of the largest kind of part (The part on our bench).
+abbrev pub largestSize : ℕ
+largestSize = smallSize
+
+-- Whether an array of a length has the size named; a size beyond the largest kind's is none, by our choice (Refusal numbers, 5).
+unfoldable pub sized : ℕ → ℕ → Bool
+sized size n = eqb n size && leb size largestSize
 
 -- The longest text (Refusal numbers, 11).
 abbrev pub mostText : ℕ

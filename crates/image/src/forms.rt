@@ -1,7 +1,7 @@
 // The form of a record: colon, count, address, type, data, checksum.
 use ground::kinds;
 ghost use mathlib.Core.Path.{_≡_};
-ghost use Rattle.image.specs.Form.{imageSize, charactersIn};
+ghost use Rattle.image.specs.Form.{sized};
 
 pub const COLON: u8 = 0x3A;
 
@@ -15,10 +15,15 @@ pub const ROW: usize = 16;
 // Where a record's data start among its bytes: after count, address and type.
 pub const HEAD: usize = 4;
 
-// The size of the array that an image is for.
-pub fn image_size() -> usize
-    ensures { λ r. ⌜ r ≡ imageSize ⌝ }
+// The size of the largest kind of part: there is room for no larger array.
+pub const LARGEST: usize = kinds::SMALL_SIZE as usize;
+
+// Whether an array of a length has the size named, and there is room for it.
+pub fn is_sized(size: usize, length: usize) -> bool
+    ensures { λ r. ⌜ r ≡ sized size length ⌝ }
 {
-    let kind = kinds::kind_of(kinds::X4323);
-    kind.size as usize
+    if length == size {
+        return size <= LARGEST;
+    }
+    false
 }

@@ -4,6 +4,7 @@ mod reading;
 mod records;
 mod writing;
 
+pub use forms::LARGEST;
 pub use ground::Reply;
 pub use reading::read_image;
 pub use writing::write_image;

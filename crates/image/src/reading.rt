@@ -8,15 +8,12 @@ use hexfile::lines;
 use hexfile::lines::Line;
 ghost use mathlib.Core.Path.{_≡_};
 ghost use Prim.Native.Nat.{_≤_};
-ghost use lib.ListN.{length};
+ghost use lib.ListN.{length, take};
 ghost use Rattle.image.specs.Parts.{ReadsLines, ReadsInto};
 ghost use Rattle.image.specs.Promises.{ReadsImage};
 
 // The longest text.
 pub const MOST_TEXT: usize = 65_536;
-
-// Room for the cells of the largest array.
-const CELLS: usize = 4096;
 
 // Reads the lines into the cells, up to the end record or the first fault. Room for a line's bytes is lent.
 fn read_lines(text: &[u8], room: &mut [u8], cells: &mut [u16]) -> Reply
@@ -70,22 +67,32 @@ fn read_into(text: &[u8], cells: &mut [u16], array: &mut [u8]) -> Reply
     reply
 }
 
-// Reads an image into an array, or refuses it with 5 or 11 to 18 and leaves the array alone.
-pub fn read_image(text: &[u8], array: &mut [u8]) -> Reply
-    ensures { λ r. ⌜ ReadsImage (now (text .entry)) (now (array .entry)) r (now (array .exit)) ⌝ }
+// The same over as many of the cells as the array has bytes.
+fn read_over(text: &[u8], cells: &mut [u16], array: &mut [u8]) -> Reply
+    requires { ⌜ length (now text) ≤ 65536 ⌝ }
+    requires { ⌜ length (now array) ≤ length (now cells) ⌝ }
+    ensures { λ r. ⌜ ReadsInto (now (text .entry)) (take (length (now (array .entry))) (now (cells .entry))) (now (array .entry)) r (now (array .exit)) ⌝ }
 {
-    if array.len() != forms::image_size() {
-        return Reply::Refused {
-            number: 5,
-            place: 0,
-        };
+    let size = array.len();
+    read_into(text, &mut cells[..size], array)
+}
+
+// Reads an image into an array of a size, or refuses it with 5 or 11 to 18 and leaves the array alone.
+pub fn read_image(size: usize, text: &[u8], array: &mut [u8]) -> Reply
+    ensures { λ r. ⌜ ReadsImage size (now (text .entry)) (now (array .entry)) r (now (array .exit)) ⌝ }
+{
+    if forms::is_sized(size, array.len()) {
+        if text.len() > MOST_TEXT {
+            return Reply::Refused {
+                number: 11,
+                place: 0,
+            };
+        }
+        let mut cells = [cells::NOT_GIVEN; forms::LARGEST];
+        return read_over(text, &mut cells, array);
     }
-    if text.len() > MOST_TEXT {
-        return Reply::Refused {
-            number: 11,
-            place: 0,
-        };
+    Reply::Refused {
+        number: 5,
+        place: 0,
     }
-    let mut cells = [cells::NOT_GIVEN; CELLS];
-    read_into(text, &mut cells, array)
 }

@@ -128,21 +128,21 @@ fn put_rows(array: &[u8], out: &mut [u8]) -> usize
     at + END_LENGTH
 }
 
-// Writes an array in the fixed form at the start of `out`, or refuses with 5 or 19 and leaves it alone.
-pub fn write_image(array: &[u8], out: &mut [u8]) -> Reply
-    ensures { λ r. ⌜ WritesImage (now (array .entry)) (now (out .entry)) r (now (out .exit)) ⌝ }
+// Writes an array of a size in the fixed form at the start of `out`, or refuses with 5 or 19 and leaves it alone.
+pub fn write_image(size: usize, array: &[u8], out: &mut [u8]) -> Reply
+    ensures { λ r. ⌜ WritesImage size (now (array .entry)) (now (out .entry)) r (now (out .exit)) ⌝ }
 {
-    if array.len() != forms::image_size() {
-        return Reply::Refused {
-            number: 5,
-            place: 0,
-        };
+    if forms::is_sized(size, array.len()) {
+        if out.len() < ROW_LENGTH * (size / forms::ROW) + END_LENGTH {
+            return Reply::Refused {
+                number: 19,
+                place: 0,
+            };
+        }
+        return Reply::Accepted(put_rows(array, out));
     }
-    if out.len() < ROW_LENGTH * (array.len() / forms::ROW) + END_LENGTH {
-        return Reply::Refused {
-            number: 19,
-            place: 0,
-        };
+    Reply::Refused {
+        number: 5,
+        place: 0,
     }
-    Reply::Accepted(put_rows(array, out))
 }

@@ -6,10 +6,10 @@ use mathlib.Core.Path.{_≡_, refl, _∙_}
 use lib.ListN.{length}
 use borrow.Author.Tests.{le-leb}
 use Rattle.ground.specs.Verdict.{accepted}
-use Rattle.ground.specs.Kind.{kindOf}
+use Rattle.ground.specs.Numbers.{smallSize}
 use Rattle.hexfile.specs.Digits.{digitOf, glyphOf}
 use Rattle.hexfile.specs.Lines.{trimmed}
-use Rattle.image.specs.Form.{imageSize, bytesOf, wellFormed, typed, inside}
+use Rattle.image.specs.Form.{sized, bytesOf, wellFormed, typed, inside}
 use Rattle.image.specs.Reading.{taken, bad, fresh, givenOf, recordSays, saysOf, readingOf}
 use Rattle.image.specs.Writing.{recordText, imageText}
 use Rattle.image.specs.Promises.{imageOf, writeVerdict}
@@ -17,28 +17,28 @@ use Rattle.tidying.specs.Shown.{shownOf, refusalLine, decimalOf}
 use Rattle.image_cases.specs.ImageCases.{paperArray, paperText, P10, P11}
 
 -- The text that the paper shows, read for 4,096 bytes, gives the image.
-shown-read : readingOf imageSize paperText ≡ taken paperArray
-unfolding kindOf readingOf trimmed saysOf recordSays wellFormed typed inside fresh givenOf bytesOf digitOf
+shown-read : readingOf smallSize paperText ≡ taken paperArray
+unfolding readingOf trimmed saysOf recordSays wellFormed typed inside fresh givenOf bytesOf digitOf
 shown-read = refl
 
 -- The image is written as that text.
 shown-written : imageText paperArray ≡ paperText
-unfolding kindOf imageText recordText glyphOf
+unfolding imageText recordText glyphOf
 shown-written = refl
 
 -- So the program writes it as it was.
-shown-tidied : shownOf paperText ≡ paperText
+shown-tidied : shownOf smallSize paperText ≡ paperText
 unfolding shownOf
 shown-tidied = rw shown-read shown-written
 
 -- An array of 4,096 bytes lets the text decide.
-by-text : (text old : List ℕ) → length old ≡ 4096 → imageOf text old ≡ readingOf imageSize text
-unfolding imageOf kindOf
+by-text : (text old : List ℕ) → length old ≡ smallSize → imageOf smallSize text old ≡ readingOf smallSize text
+unfolding imageOf sized
 by-text text old h = rw h
 
 -- Writing the image is accepted with 56, given room for the longest.
-written-56 : (out : List ℕ) → 11276 ≤ length out → writeVerdict paperArray out ≡ accepted 56
-unfolding writeVerdict kindOf
+written-56 : (out : List ℕ) → 11276 ≤ length out → writeVerdict smallSize paperArray out ≡ accepted 56
+unfolding writeVerdict sized imageText recordText
 written-56 out h = rw (le-leb 11276 (length out) h)
 
 -- P10: the image above.
@@ -52,18 +52,18 @@ p10 =
           let v = written-56 out h in
           (w .reply ∙ v, w .said ∙ rw (v, shown-written));
       reads = λ old array′ r h w.
-          let v : imageOf paperText old ≡ taken paperArray = by-text paperText old h ∙ shown-read in
+          let v : imageOf smallSize paperText old ≡ taken paperArray = by-text paperText old h ∙ shown-read in
           (w .reply ∙ rw v, w .kept ∙ rw v);
     }
 
 -- P11: empty text is 17 at 0.
 pub p11 : P11
-unfolding kindOf readingOf shownOf refusalLine decimalOf glyphOf
+unfolding readingOf shownOf refusalLine decimalOf glyphOf
 p11 =
     record {
       read = refl;
       tidied = refl;
       reads = λ old array′ r h w.
-          let v : imageOf [] old ≡ bad 17 0 = by-text [] old h in
+          let v : imageOf smallSize [] old ≡ bad 17 0 = by-text [] old h in
           (w .reply ∙ rw v, w .kept ∙ rw v);
     }

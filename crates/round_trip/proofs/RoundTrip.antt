@@ -5,16 +5,15 @@
 -- what the writer makes of the array that was read. So the writer's texts are exactly those that are accepted and in
 -- the fixed form.
 --
--- An image of 4,096 bytes has 256 rows, and so lies well within. No axiom is used.
+-- Every part's array lies well within. No axiom is used.
 use Prim.Native.Nat.{ℕ, _+_, _*_, _≤_}
 use mathlib.Core.Bool.{true}
 use mathlib.Core.List.{List}
 use mathlib.Core.Path.{_≡_, refl, subst}
 use native.Mathlib.Omega.{arith}
-use Rattle.ground.specs.Kind.{kindOf}
-use Rattle.image.specs.Form.{imageSize, rowSize, mostText}
+use Rattle.image.specs.Form.{largestSize, rowSize, mostText}
 use Rattle.image.specs.Writing.{imageText, rowLength, endLength}
-use Rattle.round_trip.specs.RoundTrip.{Rows, fixedForm, imageRows, Takes, Writers, Fixed, RoundTrip}
+use Rattle.round_trip.specs.RoundTrip.{Rows, fixedForm, Takes, Writers, Fixed, RoundTrip}
 use Rattle.round_trip.proofs.Images.Written.{image-read, image-fixed}
 use Rattle.round_trip.proofs.Images.WrittenBack.{image-back, takes-rows}
 
@@ -59,12 +58,6 @@ round-trip n h =
       exactly = λ text. exactly n text h;
     }
 
--- An image has 256 rows.
-pub rows-in-image : imageSize ≡ 256 * rowSize
-unfolding kindOf
-rows-in-image = refl
-
--- The claim for an image of 4,096 bytes.
-pub image-round-trip : RoundTrip imageRows
-unfolding kindOf
-image-round-trip = round-trip 256 (omega arith)
+-- The claim for every array of whole rows that is no larger than a part's.
+pub image-round-trip : (n : ℕ) → n * rowSize ≤ largestSize → RoundTrip n
+image-round-trip n h = round-trip n (omega arith)

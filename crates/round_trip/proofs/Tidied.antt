@@ -1,7 +1,7 @@
 -- What the program writes. Of a text that is too long it says 11 whatever follows the first 65,537 bytes, so that it need not read
 -- further. A text that is accepted and in the fixed form is written as it is, and what was written for an accepted text is written
 -- again. The lengths that the paper names are those of the texts. No axiom is used.
-use Prim.Native.Nat.{ℕ, _+_, _≤_, _<_}
+use Prim.Native.Nat.{ℕ, _+_, _*_, _≤_, _<_}
 use mathlib.Core.Bool.{Bool, true, false}
 use mathlib.Core.List.{List}
 use mathlib.Core.Path.{_≡_, refl, ap, sym, _∙_}
@@ -9,14 +9,13 @@ use native.Mathlib.Omega.{arith}
 use lib.Dec.{leb}
 use lib.ListN.{length, take, length-take}
 use lib.Seq.{take-all}
-use borrow.Author.Tests.{leb-true, leb-false, lt-leb}
-use Rattle.ground.specs.Kind.{kindOf}
-use Rattle.image.specs.Form.{imageSize, mostText}
+use borrow.Author.Tests.{leb-true, leb-false, le-leb, lt-leb}
+use Rattle.image.specs.Form.{largestSize, mostText, rowSize}
 use Rattle.image.specs.Reading.{readingOf}
 use Rattle.image.specs.Writing.{imageText}
 use Rattle.image.proofs.Laid.{length-record, length-image, length-most}
 use Rattle.tidying.specs.Shown.{shownOf}
-use Rattle.round_trip.specs.RoundTrip.{imageRows, Takes, Lengths, Tidied}
+use Rattle.round_trip.specs.RoundTrip.{Takes, Lengths, Tidied}
 use Rattle.round_trip.proofs.Images.WrittenBack.{takes-rows}
 use Rattle.round_trip.proofs.RoundTrip.{reads-back, writes-back}
 
@@ -32,32 +31,37 @@ cut-by size text false e =
     let n : length (take (mostText + 1) text) ≡ mostText + 1 = length-take (mostText + 1) text ∙ omega arith in
     rw (e, lt-leb (length (take (mostText + 1) text)) mostText (omega arith))
 
--- An accepted text is shown in the fixed form of its array.
-shown-taken : (text array : List ℕ) → Takes imageRows text array → shownOf text ≡ imageText array
-unfolding shownOf kindOf
-shown-taken text array t = rw t
+module _ (n : ℕ) (h : n * rowSize ≤ largestSize) where
+  -- An accepted text is shown in the fixed form of its array.
+  shown-taken : (text array : List ℕ) → Takes n text array → shownOf (n * rowSize) text ≡ imageText array
+  unfolding shownOf
+  shown-taken text array t = rw (le-leb (n * rowSize) largestSize h, t)
 
--- The program's three habits.
-pub tidied : Tidied
-unfolding shownOf kindOf
-tidied =
-    record {
-      cut = λ text. rw (← cut-by imageSize text (leb (length text) mostText) refl);
-      keeps = λ text array t f. shown-taken text array t ∙ writes-back imageRows text array t f;
-      again = λ text array t.
-          let r = takes-rows imageRows text array t in
-          let s = shown-taken text array t in
-          let u = reads-back imageRows array r (omega arith) in
-          ap shownOf s ∙ shown-taken (imageText array) array u ∙ sym s;
-    }
+  -- A text is shown as far as it is looked at.
+  shown-cut : (text : List ℕ) → shownOf (n * rowSize) text ≡ shownOf (n * rowSize) (take (mostText + 1) text)
+  unfolding shownOf
+  shown-cut text = rw (← cut-by (n * rowSize) text (leb (length text) mostText) refl)
+
+  -- The program's three habits.
+  pub tidied : Tidied n
+  tidied =
+      record {
+        cut = shown-cut;
+        keeps = λ text array t f. shown-taken text array t ∙ writes-back n text array t f;
+        again = λ text array t.
+            let r = takes-rows n text array t in
+            let s = shown-taken text array t in
+            let u = reads-back n array r (omega arith) in
+            ap (shownOf (n * rowSize)) s ∙ shown-taken (imageText array) array u ∙ sym s;
+      }
 
 -- The lengths.
 pub lengths : Lengths
-unfolding kindOf
 lengths =
     record {
       answered = length-image;
       row = λ address row h. length-record address 0 row ∙ rw h;
       end = length-record 0 1 _;
-      most = λ array h. omega (arith, length-image array, length-most array);
+      most = λ array. omega (arith, length-image array, length-most array);
+      small = refl;
     }

@@ -1,20 +1,20 @@
 -- A written image reads back the same: an array that is written and read comes back; a text that is accepted and in the fixed form is what
 -- the writer makes of the array that it gives; and these are all of the writer's texts. It is said of arrays of n 16-byte rows whose longest
 -- text, 44 n + 12, is not so long that 11 refuses it (demand 2; document 01, Image files).
-use Prim.Native.Nat.{ℕ, _+_, _*_, _-_, _/_, _%_, _≤_}
+use Prim.Native.Nat.{ℕ, _+_, _*_, _-_, _%_, _≤_}
 use mathlib.Core.Bool.{Bool, true, false, not, _&&_}
 use mathlib.Core.List.{List, [], _∷_}
 use mathlib.Core.Path.{_≡_}
 use lib.Dec.{eqb, leb, ltb}
 use lib.ListN.{length, getD, take}
-use Rattle.ground.specs.Numbers.{byteValues}
+use Rattle.ground.specs.Numbers.{smallSize, byteValues}
 use Rattle.ground.specs.Verdict.{accepted, meant}
 use Rattle.ground.specs.declared.Reply.{Reply}
 use Rattle.hexfile.specs.Lines.{lineFeed, carriageReturn, linesOf}
 use Rattle.hexfile.specs.Cells.{blankOf}
-use Rattle.image.specs.Form.{imageSize, mostText, rowSize, dataType, endType, bytesOf, countOf, addressOf, typeOf, dataOf}
+use Rattle.image.specs.Form.{mostText, rowSize, dataType, endType, bytesOf, countOf, addressOf, typeOf, dataOf}
 use Rattle.image.specs.Reading.{taken, readingOf}
-use Rattle.image.specs.Writing.{recordText, imageText, lengthOf}
+use Rattle.image.specs.Writing.{recordText, imageText, lengthOf, mostLength}
 use Rattle.tidying.specs.Shown.{shownOf}
 
 -- Whether a test holds of every number of a list: a word for the definitions below.
@@ -58,10 +58,6 @@ fixedForm text = noReturn text && (endsInFeed text && fixedLines 0 (linesOf text
 abbrev pub Takes : ℕ → List ℕ → List ℕ → Type 0
 Takes n text array = readingOf (n * rowSize) text ≡ taken array
 
--- How many rows an image has (Image files, the writer).
-abbrev pub imageRows : ℕ
-imageRows = imageSize / rowSize
-
 -- A text is the writer's for an array of so many rows (Image files, the writer).
 pub record Writers (n : ℕ) (text : List ℕ) : Type 0 where
   pub array : List ℕ
@@ -90,10 +86,13 @@ pub record Lengths : Type 0 where
   pub answered : (array : List ℕ) → length (imageText array) ≡ lengthOf array
   pub row : (address : ℕ) (row : List ℕ) → length row ≡ rowSize → length (recordText address dataType row) ≡ 44
   pub end : length (recordText 0 endType []) ≡ 12
-  pub most : (array : List ℕ) → length array ≡ 4096 → length (imageText array) ≤ 11276
+  pub most : (array : List ℕ) → length (imageText array) ≤ mostLength (length array)
+  pub small : mostLength smallSize ≡ 11276
 
--- The program: what stands past 65,537 bytes is not asked, a fixed form stays as it is, and so does what was written (Image files).
-pub record Tidied : Type 0 where
-  pub cut : (text : List ℕ) → shownOf text ≡ shownOf (take (mostText + 1) text)
-  pub keeps : (text array : List ℕ) → Takes imageRows text array → fixedForm text ≡ true → shownOf text ≡ text
-  pub again : (text array : List ℕ) → Takes imageRows text array → shownOf (shownOf text) ≡ shownOf text
+-- The program, for an array of so many rows that a part has: what stands past 65,537 bytes is not asked, a fixed form stays as it is, and so
+-- does what was written (Image files).
+pub record Tidied (n : ℕ) : Type 0 where
+  pub cut : (text : List ℕ) → shownOf (n * rowSize) text ≡ shownOf (n * rowSize) (take (mostText + 1) text)
+  pub keeps : (text array : List ℕ) → Takes n text array → fixedForm text ≡ true → shownOf (n * rowSize) text ≡ text
+  pub again : (text array : List ℕ) → Takes n text array
+      → shownOf (n * rowSize) (shownOf (n * rowSize) text) ≡ shownOf (n * rowSize) text

@@ -1,4 +1,5 @@
 // Reads an image on standard input and writes its fixed form to standard output, or one line with its refusal.
+use ground::kinds;
 use libc::STDIN_FILENO;
 use libc::STDOUT_FILENO;
 
@@ -6,6 +7,7 @@ fn main() {
     let mut text = tidying::rooms::text_room();
     let length = io::read_full(STDIN_FILENO, &mut text);
     let mut out = tidying::rooms::out_room();
-    let written = tidying::fixed_form(&text[..length], &mut out);
+    let kind = kinds::kind_of(kinds::X4323);
+    let written = tidying::fixed_form(kind.size as usize, &text[..length], &mut out);
     io::write_all(STDOUT_FILENO, &out[..written]);
 }

@@ -1,5 +1,6 @@
 // Runs the files that its arguments name through the function of the program `tidy`, and writes a line with each file's name before
 // what is written for it.
+use ground::kinds;
 use libc::STDOUT_FILENO;
 
 // The bytes of an opened file through the program's function, after the line with its name.
@@ -7,7 +8,8 @@ fn show(fd: i32, name: &[u8]) -> bool {
     let mut text = tidying::rooms::text_room();
     let length = io::read_full(fd, &mut text);
     let mut out = tidying::rooms::out_room();
-    let written = tidying::fixed_form(&text[..length], &mut out);
+    let kind = kinds::kind_of(kinds::X4323);
+    let written = tidying::fixed_form(kind.size as usize, &text[..length], &mut out);
     io::write_all(STDOUT_FILENO, b"== ")
         && io::write_all(STDOUT_FILENO, name)
         && io::write_all(STDOUT_FILENO, b"\n")

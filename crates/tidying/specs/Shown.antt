@@ -3,15 +3,16 @@ use Prim.Native.Nat.{ℕ, zero, suc, _+_, _/_, _%_}
 use mathlib.Core.Bool.{Bool, true, false}
 use mathlib.Core.List.{List, [], _∷_, _++_}
 use mathlib.Core.Path.{_≡_}
-use lib.Dec.{ltb}
+use lib.Dec.{leb, ltb}
 use lib.ListN.{length, drop}
 use lib.Seq.{sets}
 use Rattle.io.specs.Counts.{Counts}
 use Rattle.hexfile.specs.Digits.{glyphOf}
 use Rattle.hexfile.specs.Lines.{lineFeed}
-use Rattle.image.specs.Form.{imageSize}
+use Rattle.image.specs.Form.{largestSize}
 use Rattle.image.specs.Reading.{Reading, taken, bad, readingOf}
 use Rattle.image.specs.Writing.{imageText}
+use Rattle.image.specs.Promises.{imageBy}
 
 -- How many values a decimal digit has (Image files, in decimal).
 abbrev pub ten : ℕ
@@ -44,9 +45,9 @@ abbrev pub shownBy : Reading → List ℕ
 shownBy (taken array) = imageText array
 shownBy (bad k p) = refusalLine k p
 
--- What is written for a text (Image files).
-unfoldable pub shownOf : List ℕ → List ℕ
-shownOf text = shownBy (readingOf imageSize text)
+-- What is written for a text as the image of an array of a size; of none beyond the largest kind's (Image files; Refusal numbers, 5).
+unfoldable pub shownOf : ℕ → List ℕ → List ℕ
+shownOf size text = shownBy (imageBy (leb size largestSize) (readingOf size text))
 
 -- A text at the start of a buffer: its length is answered, the buffer's other bytes stay; the last part repeats r ≤ length for callers.
 pub record Starts (text out : List ℕ) (r : ℕ) (out′ : List ℕ) : Type 0 where

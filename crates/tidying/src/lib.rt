@@ -3,17 +3,15 @@ pub mod rooms;
 
 use image::Reply;
 ghost use mathlib.Core.Path.{_≡_};
-ghost use Prim.Native.Nat.{_+_, _≤_};
+ghost use mathlib.Core.Bool.{true};
+ghost use Prim.Native.Nat.{_+_, _≤_, min};
 ghost use lib.ListN.{length};
-ghost use Rattle.image.specs.Form.{imageSize};
+ghost use Rattle.image.specs.Form.{largestSize, sized};
 ghost use Rattle.image.specs.Writing.{imageText, mostLength};
 ghost use Rattle.tidying.specs.Shown.{decimalOf, refusalLine, shownOf, Starts, Lays};
 
 // Room for the longest fixed form.
 pub const ROOM: usize = 11_276;
-
-// Bytes of the array that an image is read into.
-const SIZE: usize = 4096;
 
 // The most digits of a number.
 const DIGITS: usize = 20;
@@ -45,35 +43,55 @@ fn put_refusal(number: u8, place: usize, out: &mut [u8]) -> usize
 }
 
 // Writes the fixed form of an array over `out`, or the refusal's line, and answers the length.
-fn put_image(array: &[u8], out: &mut [u8]) -> usize
-    requires { ⌜ length (now array) ≡ imageSize ⌝ }
-    requires { ⌜ mostLength imageSize ≤ length (now out) ⌝ }
+fn put_image(size: usize, array: &[u8], out: &mut [u8]) -> usize
+    requires { ⌜ sized size (length (now array)) ≡ true ⌝ }
+    requires { ⌜ mostLength largestSize ≤ length (now out) ⌝ }
     ensures { λ r. ⌜ Starts (imageText (now (array .entry))) (now (out .entry)) r (now (out .exit)) ⌝ }
 {
-    let reply = image::write_image(array, out);
+    let reply = image::write_image(size, array, out);
     match reply {
         Reply::Accepted(length) => length,
         Reply::Refused { number, place } => put_refusal(number, place, out),
     }
 }
 
-// The same as `fixed_form`, with the array lent.
-fn put_text(text: &[u8], array: &mut [u8], out: &mut [u8]) -> usize
-    requires { ⌜ length (now array) ≡ imageSize ⌝ }
-    requires { ⌜ mostLength imageSize ≤ length (now out) ⌝ }
-    ensures { λ r. ⌜ Starts (shownOf (now (text .entry))) (now (out .entry)) r (now (out .exit)) ⌝ }
+// The same as `fixed_form`, with the array lent: as many bytes as the size says, or all that there can be.
+fn put_text(size: usize, text: &[u8], array: &mut [u8], out: &mut [u8]) -> usize
+    requires { ⌜ length (now array) ≡ min size largestSize ⌝ }
+    requires { ⌜ mostLength largestSize ≤ length (now out) ⌝ }
+    ensures { λ r. ⌜ Starts (shownOf size (now (text .entry))) (now (out .entry)) r (now (out .exit)) ⌝ }
 {
-    let reply = image::read_image(text, array);
+    let reply = image::read_image(size, text, array);
     match reply {
-        Reply::Accepted(_) => put_image(array, out),
+        Reply::Accepted(_) => put_image(size, array, out),
         Reply::Refused { number, place } => put_refusal(number, place, out),
     }
 }
 
-// Writes the fixed form of an image's text at the start of `out`, or the line of its refusal, and answers the length.
-pub fn fixed_form(text: &[u8], out: &mut [u8; ROOM]) -> usize
-    ensures { λ r. ⌜ Starts (shownOf (now (text .entry))) (now (out .entry)) r (now (out .exit)) ⌝ }
+fn lesser(a: usize, b: usize) -> usize
+    ensures { λ r. ⌜ r ≡ min a b ⌝ }
 {
-    let mut array = [0u8; SIZE];
-    put_text(text, &mut array, out)
+    if a < b {
+        return a;
+    }
+    b
+}
+
+// The same, with room for the largest array.
+fn put_within(size: usize, text: &[u8], array: &mut [u8], out: &mut [u8]) -> usize
+    requires { ⌜ length (now array) ≡ largestSize ⌝ }
+    requires { ⌜ mostLength largestSize ≤ length (now out) ⌝ }
+    ensures { λ r. ⌜ Starts (shownOf size (now (text .entry))) (now (out .entry)) r (now (out .exit)) ⌝ }
+{
+    let n = lesser(size, array.len());
+    put_text(size, text, &mut array[..n], out)
+}
+
+// Writes the fixed form of an image's text, for an array of a size, at the start of `out`, or the line of its refusal, and answers the
+// length.
+pub fn fixed_form(size: usize, text: &[u8], out: &mut [u8; ROOM]) -> usize
+    ensures { λ r. ⌜ Starts (shownOf size (now (text .entry))) (now (out .entry)) r (now (out .exit)) ⌝ }
+{
+    let mut array = [0u8; image::LARGEST];
+    put_within(size, text, &mut array, out)
 }

@@ -1,7 +1,5 @@
 -- `tidying::put_text` meets its contract.
-use native.Mathlib.Omega.{arith}
-use Rattle.ground.specs.Kind.{kindOf}
-use Rattle.tidying.proofs.Starting.{shows-refusal, shows-image}
+use Rattle.tidying.proofs.Starting.{read-sized, shows-refusal, shows-image}
 use borrow.Author.Needs.{needs}
 use Rattle.tidying.proofs.put_text.Statement.{statement}
 use Rattle.tidying.proofs.put_text.Tie as tie
@@ -13,14 +11,15 @@ enum-told : tie.Need-enum-told
 enum-told c = search needs
 
 put-image-requires : tie.Need-put-image-requires
-put-image-requires c κs = search needs
+put-image-requires c κs =
+    let start = c .before .before .before .before .before .before .before .before .before .before .before in
+    (read-sized _ _ _ _ _ (start .pre .0) (c .before .before .before .before .before .before .read-image .ensures) _ (c .before .before .enum-told .given .1) (c .before .before .before .before .before .before .read-image .kept .1 .1 .0), search needs)
 
 enum-known-reply : tie.Need-enum-known-reply
 enum-known-reply c = search needs
 
 put-refusal-requires : tie.Need-put-refusal-requires
-unfolding kindOf
-put-refusal-requires c κs = omega (arith, c .before .before .before .before .before .before .before .before .before .before .before .pre .1)
+put-refusal-requires c κs = search needs
 
 same-length : tie.Need-same-length
 same-length c = search needs
@@ -30,7 +29,7 @@ same-length-2 c = search needs
 
 returns : tie.Need-returns
 returns c =
-    shows-image _ _ _ _ _ _ _ _ (c .before .before .before .before .before .before .before .before .before .before .before .before .before .before .pre .0) (c .before .before .before .before .before .before .before .before .before .read-image .ensures) (c .before .before .before .before .before .enum-told .given .1) (c .before .before .put-image .ensures)
+    shows-image _ _ _ _ _ (c .before .before .before .before .before .before .before .before .before .before .before .before .before .before .pre .0) (c .before .before .before .before .before .before .before .before .before .read-image .ensures) _ _ _ _ (c .before .before .before .before .before .enum-told .given .1) (c .before .before .put-image .ensures)
 
 same-length-3 : tie.Need-same-length-3
 same-length-3 c = search needs
@@ -40,7 +39,7 @@ same-length-4 c = search needs
 
 returns-2 : tie.Need-returns-2
 returns-2 c =
-    shows-refusal _ _ _ _ _ _ _ _ _ (c .before .before .before .before .before .before .before .before .before .before .before .before .before .before .pre .0) (c .before .before .before .before .before .before .before .before .before .read-image .ensures) (c .before .before .before .before .before .reply .given .1) (c .before .before .put-refusal .ensures)
+    shows-refusal _ _ _ _ _ (c .before .before .before .before .before .before .before .before .before .before .before .before .before .before .pre .0) (c .before .before .before .before .before .before .before .before .before .read-image .ensures) _ _ _ _ _ (c .before .before .before .before .before .reply .given .1) (c .before .before .put-refusal .ensures)
 
 pub put-text-spec : {M : Type 1} → statement M
 put-text-spec =

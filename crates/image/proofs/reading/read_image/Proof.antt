@@ -1,44 +1,44 @@
 -- `image::reading::read_image` meets its contract.
-use mathlib.Core.Path.{refl, sym, _∙_}
-use Rattle.ground.specs.Kind.{kindOf}
+use mathlib.Core.Path.{sym, _∙_}
+use native.Mathlib.Omega.{arith}
+use Rattle.image.proofs.Sizes.{size-of}
 use Rattle.image.proofs.Replies.{reads-size, reads-long, reads-lines}
 use borrow.Author.Needs.{needs}
 use Rattle.image.proofs.reading.read_image.Statement.{statement}
 use Rattle.image.proofs.reading.read_image.Tie as tie
 
-image-size-requires : tie.Need-image-size-requires
-image-size-requires c κs = search needs
+is-sized-requires : tie.Need-is-sized-requires
+is-sized-requires c κs = search needs
 
 returns : tie.Need-returns
-returns c = reads-size _ _ (λ e. c .if1 .taken (e ∙ sym (c .before .image-size .ensures)))
+returns c = reads-long _ _ _ (c .before .before .is-sized .ensures) (c .before .if1 .taken) (c .if2 .taken)
 
-returns-2 : tie.Need-returns-2
-returns-2 c = reads-long _ _ (c .before .if1 .left ∙ c .before .before .image-size .ensures) (c .if2 .taken)
+slice-aggregate-read-over : tie.Need-slice-aggregate-read-over
+slice-aggregate-read-over c = search needs
 
-slice-aggregate-read-into : tie.Need-slice-aggregate-read-into
-slice-aggregate-read-into c = search needs
-
-read-into-requires : tie.Need-read-into-requires
-unfolding kindOf
-read-into-requires c κs =
-    (c .before .before .if2 .left, c .before .before .before .if1 .left ∙ c .before .before .before .before .image-size .ensures)
+read-over-requires : tie.Need-read-over-requires
+read-over-requires c κs =
+    let s = size-of _ _ (sym (c .before .before .before .before .is-sized .ensures) ∙ c .before .before .before .if1 .taken) in
+    (c .before .before .if2 .left, omega arith)
 
 same-length : tie.Need-same-length
 same-length c = search needs
 
+returns-2 : tie.Need-returns-2
+returns-2 c =
+    reads-lines 4096 _ _ _ _ _ (omega arith) (c .before .before .before .before .before .before .before .before .is-sized .ensures) (c .before .before .before .before .before .before .before .if1 .taken) (c .before .before .before .before .before .before .if2 .left) (c .before .before .before .read-over .ensures)
+
 returns-3 : tie.Need-returns-3
-unfolding kindOf
-returns-3 c =
-    reads-lines 4096 _ _ _ _ (c .before .before .before .before .before .before .before .if1 .left ∙ c .before .before .before .before .before .before .before .before .image-size .ensures) refl (c .before .before .before .before .before .before .if2 .left) (c .before .before .before .read-into .ensures)
+returns-3 c = reads-size _ _ _ (c .before .is-sized .ensures) (c .if1 .left)
 
 pub read-image-spec : {M : Type 1} → statement M
 read-image-spec =
     tie.close
     (tie.spec
-    image-size-requires
+    is-sized-requires
     returns
-    returns-2
-    slice-aggregate-read-into
-    read-into-requires
+    slice-aggregate-read-over
+    read-over-requires
     same-length
+    returns-2
     returns-3)

@@ -1,8 +1,8 @@
--- `door::capture` meets its contract.
-use Rattle.door.proofs.Laws.{captures-none, captures-all}
+-- `captures::capture` meets its contract.
+use Rattle.captures.proofs.Captured.{captures-none, captures-all}
 use borrow.Author.Needs.{needs}
-use Rattle.door.proofs.capture.Statement.{statement}
-use Rattle.door.proofs.capture.Tie as tie
+use Rattle.captures.proofs.capture.Statement.{statement}
+use Rattle.captures.proofs.capture.Tie as tie
 
 power-up-requires : tie.Need-power-up-requires
 power-up-requires c κs = search needs

@@ -1,9 +1,9 @@
--- `door::tell` meets its contract.
+-- `telling::tell` meets its contract.
 use denote.Ref.{now}
-use Rattle.door.proofs.Laws.{told-accepted, told-refused}
+use Rattle.telling.proofs.Telling.{told-accepted, told-refused}
 use borrow.Author.Needs.{needs}
-use Rattle.door.proofs.tell.Statement.{statement}
-use Rattle.door.proofs.tell.Tie as tie
+use Rattle.telling.proofs.tell.Statement.{statement}
+use Rattle.telling.proofs.tell.Tie as tie
 
 enum-known-reply : tie.Need-enum-known-reply
 enum-known-reply c = search needs

@@ -1,12 +1,12 @@
--- `door::qillampu_write_image` meets its contract.
+-- `telling::write_image` meets its contract.
 use denote.Ref.{now}
-use Rattle.door.proofs.Laws.{writes-none, writes-told}
+use Rattle.telling.proofs.Telling.{writes-none, writes-told}
 use borrow.Author.Needs.{needs}
-use Rattle.door.proofs.qillampu_write_image.Statement.{statement}
-use Rattle.door.proofs.qillampu_write_image.Tie as tie
+use Rattle.telling.proofs.write_image.Statement.{statement}
+use Rattle.telling.proofs.write_image.Tie as tie
 
 returns : tie.Need-returns
-returns c = writes-none (now (c .before .before .before .before .args .reply)) (c .if1 .taken) _ _
+returns c = writes-none _ (now (c .before .before .before .before .args .reply)) (c .if1 .taken) _ _
 
 write-image-requires : tie.Need-write-image-requires
 write-image-requires c κs = search needs
@@ -24,9 +24,9 @@ returns-2 : tie.Need-returns-2
 returns-2 c =
     let numbers = now (c .before .before .before .before .before .before .before .before .before .before .before .before .args .reply) in
     let done = c .before .before .before .before .before .write-image .ensures in
-    writes-told numbers _ _ (c .before .before .before .before .before .before .before .before .if1 .left) (c .before .before .tell .ensures) _ _ _ done
+    writes-told _ numbers _ _ (c .before .before .before .before .before .before .before .before .if1 .left) (c .before .before .tell .ensures) _ _ _ done
 
-pub qillampu-write-image-spec : {M : Type 1} → statement M
-qillampu-write-image-spec =
+pub write-image-spec : {M : Type 1} → statement M
+write-image-spec =
     tie.close
     (tie.spec returns write-image-requires tell-requires same-length same-length-2 returns-2)

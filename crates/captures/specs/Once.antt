@@ -1,0 +1,30 @@
+-- A capture that starts at power-up: its verdict, and what array and answer row hold at the end (document 01, Refusal numbers, 1 to 10).
+use Prim.Native.Nat.{ℕ}
+use mathlib.Core.List.{List}
+use mathlib.Core.Path.{_≡_}
+use Rattle.ground.specs.Verdict.{Verdict, accepted, refused, meant}
+use Rattle.ground.specs.declared.Reply.{Reply}
+use Rattle.refusals.specs.Refusals.{judgedOf, powerOf}
+use Rattle.sample.specs.Run.{Part}
+use Rattle.twin.specs.Power.{poweredUp}
+use Rattle.twin.specs.Promises.{partAfter, rowAfter}
+
+-- Power-up's refusal comes before anything that the capture says (Refusal numbers, 1 to 10).
+abbrev pub onceBy : Verdict → Verdict → Verdict
+onceBy (accepted n) v = v
+onceBy (refused k p) v = refused k p
+
+-- The verdict on a capture that starts at power-up (Refusal numbers, 1 to 10).
+unfoldable pub onceOf : ℕ → ℕ → ℕ → List ℕ → List ℕ → List ℕ → List ℕ → Verdict
+onceOf part select stored es ls array row =
+    onceBy (powerOf part select stored) (judgedOf (poweredUp part select stored) es ls array row)
+
+-- The part that it starts from: the state at power-up, with the array beside it (State and time, power-up).
+abbrev pub startOf : ℕ → ℕ → ℕ → List ℕ → Part
+startOf part select stored array = record { state = poweredUp part select stored; array = array }
+
+-- Power-up and replay in one (Refusal numbers, 1 to 10).
+pub record Captures (part select stored : ℕ) (es ls array row : List ℕ) (r : Reply) (array′ row′ : List ℕ) : Type 0 where
+  pub reply : meant r ≡ onceOf part select stored es ls array row
+  pub kept : array′ ≡ partAfter (onceOf part select stored es ls array row) es ls (startOf part select stored array) .array
+  pub said : row′ ≡ rowAfter (onceOf part select stored es ls array row) es ls (startOf part select stored array) row

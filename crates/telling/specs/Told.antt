@@ -1,0 +1,41 @@
+-- A reply told in two numbers, and what the image operations promise that tell theirs so, for every input: the answer, the reply row,
+-- and what each lent row holds at the end. Nothing here is assumed of an input: every definition is total.
+use Prim.Native.Nat.{ℕ}
+use mathlib.Core.Bool.{Bool, true, false}
+use mathlib.Core.List.{List, [], _∷_}
+use mathlib.Core.Path.{_≡_}
+use lib.Dec.{eqb}
+use lib.ListN.{length}
+use Rattle.ground.specs.Verdict.{Verdict, accepted, refused}
+use Rattle.image.specs.Promises.{imageOf, verdictOf, arrayAfter, writeVerdict, outAfter}
+
+-- A verdict in two numbers: 0 and the count, or the refusal's number and place (What goes in and what comes out).
+abbrev pub told : Verdict → List ℕ
+told (accepted n) = 0 ∷ n ∷ []
+told (refused k p) = k ∷ p ∷ []
+
+-- By our choice nothing is done for a reply row that is not two numbers long (What goes in and what comes out).
+abbrev pub fits : List ℕ → Bool
+fits numbers = eqb (length numbers) 2
+
+-- The answer: 1 where the reply row has the reply, 0 where nothing was done (What goes in and what comes out).
+abbrev pub answerBy : Bool → ℕ
+answerBy true = 1
+answerBy false = 0
+
+-- A lent row at the end: as the operation leaves it, or as it was where nothing was done (Leaving no slack).
+abbrev pub leftBy : Bool → List ℕ → List ℕ → List ℕ
+leftBy true after before = after
+leftBy false after before = before
+
+-- Reading an image: the array that the text gives; refused, as it was (Refusal numbers, 5, 11 to 18; Image files).
+pub record ReadsThrough (size : ℕ) (text array numbers : List ℕ) (r : ℕ) (array′ numbers′ : List ℕ) : Type 0 where
+  pub answer : r ≡ answerBy (fits numbers)
+  pub reply : numbers′ ≡ leftBy (fits numbers) (told (verdictOf (imageOf size text array) (length text))) numbers
+  pub kept : array′ ≡ leftBy (fits numbers) (arrayAfter (imageOf size text array) array) array
+
+-- Writing an image: the buffer with the fixed form at its start; refused, as it was (Refusal numbers, 5, 19; Image files).
+pub record WritesThrough (size : ℕ) (array out numbers : List ℕ) (r : ℕ) (out′ numbers′ : List ℕ) : Type 0 where
+  pub answer : r ≡ answerBy (fits numbers)
+  pub reply : numbers′ ≡ leftBy (fits numbers) (told (writeVerdict size array out)) numbers
+  pub said : out′ ≡ leftBy (fits numbers) (outAfter (writeVerdict size array out) array out) out
