@@ -17,6 +17,7 @@ use Rattle.wire.specs.Sign.{wireOf}
 use Rattle.wire.specs.declared.Sign.{Sign}
 use Rattle.wire.specs.declared.Sign.the-variants.{Quiet, Start, Stop, Bit, Byte, Ninth}
 use Rattle.part.specs.State.{withControl, withWire, withTimers, withDevice, withLoad}
+use Rattle.control.specs.Register.{orderOf}
 use Rattle.device.specs.Bytes.{byteOf, keptOf, bitOf, ninthOf}
 use Rattle.device.specs.Ends.{startedOf, dropped, stoppedOf, endedOf}
 use Rattle.sample.specs.Level.{sclOf, sdaOf, wpOf, vccOf}
@@ -52,7 +53,7 @@ heard-sits Start wp array s w e h g =
     }
 heard-sits (Stop n) wp array s w e h g =
     record {
-      talks = stop-talks (kindOf (s .chip .part)) (s .wire .frame .bits) (w .frame .bits) (s .device) (s .load) (g .talks) wp;
+      talks = stop-talks (kindOf (s .chip .part)) (s .wire .frame .bits) (w .frame .bits) (s .device) (s .load) (g .talks) (orderOf wp (s .device .control));
       line = λ x y. cc;
     }
 heard-sits Bit wp array s w e h g =

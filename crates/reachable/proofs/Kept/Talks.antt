@@ -17,7 +17,8 @@ use Rattle.part.specs.declared.state.Control.{Control}
 use Rattle.part.specs.declared.state.Device.{Device}
 use Rattle.part.specs.declared.state.Load.{Load}
 use Rattle.part.specs.declared.state.Place.{Place}
-use Rattle.control.specs.Register.{orderOf, carriedOut}
+use Rattle.control.specs.Register.{carriedOut}
+use Rattle.control.specs.declared.Order.{Order}
 use Rattle.device.specs.Talk.{nonePends, rested, released}
 use Rattle.device.specs.Ends.{startedOf, dropped, stoppedOf}
 use Rattle.reachable.specs.Reachable.{waits, speaks, Loading, KeptLoad}
@@ -93,7 +94,7 @@ module _ (k : Kind) (n m : ℕ) (d : Device) (l : Load) (g : Talks k n d l) wher
   start-talks false = fresh k m Slave (d .counter) (nonePends (d .control)) refl (λ e. cc) refl refl
 
   -- After a stop.
-  pub stop-talks : (wp : Bool) → Talks k m (stoppedOf wp d) emptyLoad
+  pub stop-talks : (order : Order) → Talks k m (stoppedOf order d) emptyLoad
   unfolding stoppedOf
-  stop-talks wp =
-      fresh k m Idle (d .counter) (dropped (carriedOut (orderOf wp (d .control)) (d .control))) refl (λ e. cc) refl refl
+  stop-talks order =
+      fresh k m Idle (d .counter) (dropped (carriedOut order (d .control))) refl (λ e. cc) refl refl
