@@ -7,7 +7,7 @@
 -- sample on. The bit said to be out is the SDA level that the part gives, and a byte that no write covers stays. A byte
 -- fetched before the samples belongs to the state, and is the same in both.
 use Prim.Native.Nat.{ℕ, suc, _+_, _/_, _%_, _<_}
-use mathlib.Core.Bool.{Bool, true, false, not, _&&_}
+use mathlib.Core.Bool.{Bool, true, false, not, _&&_, Bool·beq}
 use mathlib.Core.List.{List, [], _∷_}
 use mathlib.Core.Path.{_≡_}
 use lib.Dec.{eqb}
@@ -31,17 +31,12 @@ abbrev pub firstBy : Bool → ℕ → When → When
 firstBy true i later = sample i
 firstBy false i later = later
 
--- Two bits are equal.
-abbrev pub sameBit : Bool → Bool → Bool
-sameBit true b = b
-sameBit false b = not b
-
 -- Both parts send a byte fetched from the address, the same bit of it is out, and it is unequal (demand 3).
 abbrev pub reaches : ℕ → Sent → Sent → Bool
 reaches a nothing h = false
 reaches a (sends b v m) nothing = false
 reaches a (sends b v m) (sends c w n) =
-    (eqb b a && eqb c a) && (eqb m n && not (sameBit (bitFrom m v) (bitFrom n w)))
+    (eqb b a && eqb c a) && (eqb m n && not (Bool·beq (bitFrom m v) (bitFrom n w)))
 
 -- The first sample after which a sending of a byte fetched from the address has reached an unequal bit (demand 3).
 abbrev pub firstReach : ℕ → ℕ → List ℕ → List ℕ → Part → Part → Sent → Sent → When

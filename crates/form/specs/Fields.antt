@@ -1,6 +1,6 @@
 -- Words put into the fields of a state (docs/BENCH.md).
 use Prim.Native.Nat.{ℕ, min}
-use mathlib.Core.Bool.{Bool, true, false}
+use mathlib.Core.Bool.{cond}
 use lib.Dec.{eqb}
 use Rattle.part.specs.Page.{at}
 use Rattle.part.specs.State.{withChip, withTimers, withWire, withDevice, withWrite, withHold, withWatchdog, withCounter, withControl, withStored}
@@ -15,14 +15,9 @@ use Rattle.form.specs.declared.fields.Preset.{Preset}
 abbrev pub keepWord : ℕ
 keepWord = 0xFFFFFFFF
 
--- What a field holds: as it was if the word says so, else the new number.
-abbrev pub fieldBy : Bool → ℕ → ℕ → ℕ
-fieldBy true new old = old
-fieldBy false new old = new
-
--- A word put into a field whose largest number is given; a wider word counts as that number.
+-- A word put into a field whose largest number is given: it stays if the word says so, and a wider word counts as that number.
 unfoldable pub fieldOf : ℕ → ℕ → ℕ → ℕ
-fieldOf most word old = fieldBy (eqb word keepWord) (min word most) old
+fieldOf most word old = cond (eqb word keepWord) old (min word most)
 
 -- The chip with the part number and the select put in.
 abbrev pub chipOf : Preset → Chip → Chip

@@ -2,7 +2,7 @@
 -- bit alone, and until then they are equal but for the byte being sent, and a sample leaves them beside each other.
 -- Assumes nothing.
 use Prim.Native.Nat.{ℕ, _+_, _/_, _%_}
-use mathlib.Core.Bool.{Bool, true, false, not, true≢false}
+use mathlib.Core.Bool.{Bool, true, false, not, true≢false, Bool·beq}
 use mathlib.Core.List.{List}
 use mathlib.Core.Path.{_≡_, refl, ap, sym, _∙_}
 use native.Mathlib.Omega.{arith}
@@ -15,12 +15,13 @@ use Rattle.part.specs.declared.state.State.{State}
 use Rattle.sample.specs.Level.{pinBy, answerOf}
 use Rattle.sample.specs.Sample.{stepOf}
 use Rattle.demand3.specs.Sending.{Sent, nothing, sends, sentOf, bitFrom}
-use Rattle.demand3.specs.Differ.{sameBit, reaches, elsewhere, EqualBut, silenced}
+use Rattle.demand3.specs.Differ.{reaches, elsewhere, EqualBut, silenced}
 use Rattle.demand3.proofs.Sent.OneSample.{partOf, sendingState, BothSend, Beside, equal, apart, step-equal, step-apart}
 
 -- Bits that are equal are one bit.
-same-one : (b c : Bool) → sameBit b c ≡ true → b ≡ c
-same-one true c e = sym e
+same-one : (b c : Bool) → Bool·beq b c ≡ true → b ≡ c
+same-one true true e = refl
+same-one true false e = sym e
 same-one false true e = e
 same-one false false e = refl
 
@@ -31,7 +32,7 @@ reach-none a (sends b v m) nothing e = refl
 reach-none a (sends b v m) (sends c w n) e = rw (not-true (eqb b a) e)
 
 -- Two bytes from the address, the same bit being out, reach an unequal one.
-reach-bit : (a v w n : ℕ) → reaches a (sends a v n) (sends a w n) ≡ not (sameBit (bitFrom n v) (bitFrom n w))
+reach-bit : (a v w n : ℕ) → reaches a (sends a v n) (sends a w n) ≡ not (Bool·beq (bitFrom n v) (bitFrom n w))
 reach-bit a v w n = rw (eq-eqb a a refl, eq-eqb n n refl)
 
 -- An answer byte of its three bits.
@@ -50,14 +51,14 @@ told-parts false false true = (refl, refl)
 told-parts false false false = (refl, refl)
 
 -- Two answers with an unequal first bit differ in it.
-told-line : (b c r w : Bool) → sameBit b c ≡ false → told b r w % 2 ≡ told c r w % 2 → ⊥
+told-line : (b c r w : Bool) → Bool·beq b c ≡ false → told b r w % 2 ≡ told c r w % 2 → ⊥
 told-line true true r w d e = true≢false d
 told-line true false r w d e = omega (arith, told-parts true r w .0, told-parts false r w .0)
 told-line false true r w d e = omega (arith, told-parts true r w .0, told-parts false r w .0)
 told-line false false r w d e = true≢false d
 
 -- Two answers that are equal in the others differ just where the first bit is unequal.
-told-differ : (b c r w t : Bool) → sameBit b c ≡ t → not (eqb (told b r w) (told c r w)) ≡ not t
+told-differ : (b c r w t : Bool) → Bool·beq b c ≡ t → not (eqb (told b r w) (told c r w)) ≡ not t
 told-differ b c r w true e =
     ap not (eq-eqb (told b r w) (told c r w) (ap (λ (x : Bool). told x r w) (same-one b c e)))
 told-differ b c r w false e =
@@ -71,7 +72,7 @@ pub record LineApart (s t : State) : Type 0 where
 module _ {a : ℕ} {s t : State} {g h : Sent} where
   -- Two states that both send reach an unequal bit where the bits that are out are unequal.
   both-reach : (c : BothSend a s t g h)
-      → reaches a g h ≡ not (sameBit (bitFrom (c .bit) (c .one)) (bitFrom (c .bit) (c .other)))
+      → reaches a g h ≡ not (Bool·beq (bitFrom (c .bit) (c .one)) (bitFrom (c .bit) (c .other)))
   both-reach c = rw (c .sent, c .also) (reach-bit a (c .one) (c .other) (c .bit))
 
   -- Until then the bit that is out is one.
@@ -79,7 +80,7 @@ module _ {a : ℕ} {s t : State} {g h : Sent} where
   one-bit c r =
       let b : Bool = bitFrom (c .bit) (c .one) in
       let d : Bool = bitFrom (c .bit) (c .other) in
-      same-one b d (not-false (sameBit b d) (sym (both-reach c) ∙ r))
+      same-one b d (not-false (Bool·beq b d) (sym (both-reach c) ∙ r))
 
   -- Two states beside each other answer differently just where they reach an unequal bit.
   pub beside-answers : Beside a s t g h → not (eqb (answerOf s) (answerOf t)) ≡ reaches a g h
@@ -89,7 +90,7 @@ module _ {a : ℕ} {s t : State} {g h : Sent} where
       let b : Bool = bitFrom (c .bit) (c .one) in
       let d : Bool = bitFrom (c .bit) (c .other) in
       let r : Bool = pinBy (kindOf (c .base .chip .part) .high) (c .base .timers .reset) in
-      (rw (c .here, c .there) (told-differ b d r (writes (c .base .timers)) (sameBit b d) refl)) ∙ sym (both-reach c)
+      (rw (c .here, c .there) (told-differ b d r (writes (c .base .timers)) (Bool·beq b d) refl)) ∙ sym (both-reach c)
 
   -- Where they reach one, they differ in the SDA bit alone.
   pub beside-line : Beside a s t g h → reaches a g h ≡ true → LineApart s t
@@ -100,7 +101,7 @@ module _ {a : ℕ} {s t : State} {g h : Sent} where
       let d : Bool = bitFrom (c .bit) (c .other) in
       let r : Bool = pinBy (kindOf (c .base .chip .part) .high) (c .base .timers .reset) in
       let w : Bool = writes (c .base .timers) in
-      let u = not-true (sameBit b d) (sym (both-reach c) ∙ x) in
+      let u = not-true (Bool·beq b d) (sym (both-reach c) ∙ x) in
       let same = told-parts b r w .1 ∙ sym (told-parts d r w .1) in
       rw (c .here, c .there) record { others = same; line = told-line b d r w u }
 

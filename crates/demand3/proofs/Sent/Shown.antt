@@ -1,18 +1,18 @@
 -- One part through the rows, beside itself: while a byte fetched within them is being sent, the part gives on SDA the bit
 -- of it that is out. Assumes nothing.
 use Prim.Native.Nat.{ℕ}
-use mathlib.Core.Bool.{Bool, true, false, true≢false, _&&_}
+use mathlib.Core.Bool.{Bool, true, false, true≢false, _&&_, Bool·beq}
 use mathlib.Core.List.{List, [], _∷_}
 use mathlib.Core.Path.{_≡_, refl, sym}
 use borrow.Author.Tests.{eq-eqb}
 use Rattle.sample.specs.Run.{Part, partStep, runOf}
 use Rattle.demand3.specs.Sending.{Sent, nothing, sends, bitFrom}
-use Rattle.demand3.specs.Differ.{sameBit, reaches, EqualBut, sentAfter}
+use Rattle.demand3.specs.Differ.{reaches, EqualBut, sentAfter}
 use Rattle.demand3.proofs.Sent.OneSample.{Beside, equal, apart}
 use Rattle.demand3.proofs.Sent.Reached.{beside-step}
 
 -- A bit is equal to itself.
-same-self : (b : Bool) → sameBit b b ≡ true
+same-self : (b : Bool) → Bool·beq b b ≡ true
 same-self true = refl
 same-self false = refl
 
