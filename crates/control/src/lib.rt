@@ -2,7 +2,7 @@
 use ground::cases;
 use part::state::Control;
 ghost use mathlib.Core.Path.{_≡_};
-ghost use mathlib.Core.Bool.{Bool, true, false};
+ghost use mathlib.Core.Bool.{true, false};
 ghost use Rattle.control.specs.Register.{plainOf, readsOf, lowOrder, orderOf, carriedOut, takesTime};
 
 // What a stop after one register byte does.

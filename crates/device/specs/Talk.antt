@@ -10,7 +10,6 @@ use Rattle.part.specs.declared.state.Phase.the-variants.{Idle, Silent, Slave, H
 use Rattle.part.specs.declared.state.BusAddress.{BusAddress}
 use Rattle.part.specs.declared.state.Talk.{Talk}
 use Rattle.part.specs.declared.state.Control.{Control}
-use Rattle.part.specs.declared.state.Device.{Device}
 
 -- A register byte pends (Control register, the first register byte).
 abbrev pub pends : Control → ℕ → Control

@@ -6,7 +6,6 @@ use part::state::Device;
 use part::state::Phase;
 use part::state::Talk;
 ghost use mathlib.Core.Path.{_≡_};
-ghost use mathlib.Core.Bool.{Bool};
 ghost use Rattle.ground.specs.Cases.{highest};
 ghost use Rattle.part.specs.State.{withTalk};
 ghost use Rattle.device.specs.Talk.{released, sending, sendsIn, shiftedOf};

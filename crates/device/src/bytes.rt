@@ -8,7 +8,6 @@ use part::state::Device;
 use part::state::Load;
 use part::state::Phase;
 ghost use mathlib.Core.Path.{_≡_};
-ghost use mathlib.Core.Bool.{Bool};
 ghost use Rattle.part.specs.State.{withTalk};
 ghost use Rattle.device.specs.Talk.{pends, nonePends, rested};
 ghost use Rattle.device.specs.Bytes.{takenOf, dataBy, registerBy, registerSent, byteOf, keptBy, expectsData, Fills};

@@ -6,7 +6,6 @@ use part::state::Control;
 use part::state::Device;
 use part::state::Phase;
 ghost use mathlib.Core.Path.{_≡_};
-ghost use mathlib.Core.Bool.{Bool};
 ghost use Rattle.device.specs.Ends.{dropped, startedOf, stoppedOf, endedOf};
 
 // No choice, no pending byte.

@@ -5,7 +5,7 @@ use crate::state::PAGE;
 use crate::state::Place;
 use ground::kinds::Kind;
 ghost use mathlib.Core.Path.{_≡_};
-ghost use mathlib.Core.Bool.{Bool, cond};
+ghost use mathlib.Core.Bool.{cond};
 ghost use lib.ListN.{getD, set};
 ghost use Rattle.part.specs.Page.{placeOf, nextInPage, nextInArray, byteAt, emptyLoad, filledOf, layOf, storeOf, anyMarked};
 

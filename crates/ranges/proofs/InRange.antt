@@ -7,7 +7,6 @@ use mathlib.Core.Path.{_≡_, refl}
 use native.Mathlib.Omega.{arith}
 use native.Mathlib.Nat.{mod-lt}
 use lib.Dec.{eqb, leb, ltb}
-use lib.ListN.{length}
 use borrow.Author.Tests.{eq-eqb, lt-ltb, le-leb, ltb-true, leb-true}
 use Rattle.ground.specs.Numbers.{writeTime, resetHold, longWatch, mostSelect, mostBits, registerAddress}
 use Rattle.ground.specs.Cases.{odd, middle}

@@ -2,22 +2,20 @@
 use Prim.Native.Nat.{ℕ, suc, _+_, _<_, _≤_}
 use mathlib.Core.Bool.{Bool, true, false}
 use mathlib.Core.List.{List, [], _∷_}
-use mathlib.Core.Path.{_≡_, refl, ap, sym, _∙_}
+use mathlib.Core.Path.{_≡_, refl}
 use native.Mathlib.Omega.{arith}
-use lib.Dec.{leb, ltb, eqb}
+use lib.Dec.{leb, eqb}
 use lib.ListN.{length, getD, drop, drop-of-length-le}
 use lib.Seq.{drop-cons}
 use borrow.Author.Count.{below-more}
-use borrow.Author.Tests.{lt-ltb, le-leb, eqb-true}
+use borrow.Author.Tests.{le-leb, eqb-true}
 use Rattle.ground.specs.Numbers.{mostElapsed, mostLevel, mostSamples}
 use Rattle.ground.specs.Kind.{kindOf}
 use Rattle.part.specs.declared.state.State.{State}
-use Rattle.ground.specs.Verdict.{Verdict, accepted, refused, meant}
+use Rattle.ground.specs.Verdict.{Verdict, accepted}
 use Rattle.refusals.specs.Refusals.{sampleBy, samplesOf, judgedBy, judgedOf, inRange}
 use Rattle.ground.proofs.Verdicts.{apart}
 use Rattle.refusals.specs.Search.{AtMost}
-use Rattle.ground.specs.declared.Reply.{Reply}
-use Rattle.ground.specs.declared.Reply.the-variants.{Accepted, Refused}
 
 -- One sample judged: what the rest says stands behind it.
 pub samples-turn : (es ls : List ℕ) (i : ℕ) (v : Verdict) → i < length es → i < length ls

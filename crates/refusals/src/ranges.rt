@@ -4,7 +4,6 @@ use part::state::State;
 use part::state::Timers;
 use part::timers;
 ghost use mathlib.Core.Path.{_≡_};
-ghost use mathlib.Core.Bool.{Bool};
 ghost use Rattle.refusals.specs.Refusals.{storable, timersInRange, inRange};
 
 pub const MOST_SELECT: u8 = 3;

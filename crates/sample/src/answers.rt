@@ -3,7 +3,7 @@ use ground::cases;
 use ground::kinds;
 use part::state::State;
 ghost use mathlib.Core.Path.{_≡_};
-ghost use mathlib.Core.Bool.{Bool, _&&_};
+ghost use mathlib.Core.Bool.{_&&_};
 ghost use Rattle.sample.specs.Level.{sclOf, sdaOf, wpOf, vccOf, pinBy, answerOf};
 
 pub fn scl(level: u8) -> bool

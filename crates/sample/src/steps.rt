@@ -15,8 +15,7 @@ use part::state::Wire;
 use part::timers;
 use wire::Sign;
 ghost use mathlib.Core.Path.{_≡_};
-ghost use mathlib.Core.Bool.{Bool};
-ghost use Rattle.sample.specs.Sample.{begun, latchedBy, opensOf, resetOf, startOf, stopOf, byteStep};
+ghost use Rattle.sample.specs.Sample.{begun, latchedBy, opensOf, resetOf, startOf, byteStep};
 ghost use Rattle.sample.specs.Promises.{Steps, Hears, Saves};
 
 // Low VCC clears both latches.

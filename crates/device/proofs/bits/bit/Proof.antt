@@ -1,5 +1,5 @@
 -- `device::bits::bit` meets its contract.
-use mathlib.Core.Path.{_≡_, sym, _∙_}
+use mathlib.Core.Path.{sym, _∙_}
 use borrow.Author.Needs.{needs}
 use Rattle.device.proofs.Phases.{bit-stays, bit-sent}
 use Rattle.device.proofs.bits.bit.Statement.{statement}

@@ -1,3 +1,4 @@
+-- `refusals::verdicts::power` meets its contract.
 use borrow.Author.Tests.{le-leb, lt-leb}
 use Rattle.ground.specs.Verdict.{meant}
 use Rattle.refusals.specs.Refusals.{powerOf}
@@ -5,36 +6,26 @@ use Rattle.ground.proofs.Tests.{not-zero, not-held, not-failed}
 use borrow.Author.Needs.{needs}
 use Rattle.refusals.proofs.verdicts.power.Statement.{statement}
 use Rattle.refusals.proofs.verdicts.power.Tie as tie
-use Rattle.refusals.proofs.verdicts.power.Reads as reads
-use Rattle.refusals.proofs.verdicts.power.Lts as lts
-use Rattle.ground.proofs.kinds.kind_of.Reads as kind-of-reads
-use Rattle.refusals.proofs.ranges.is_storable.Reads as is-storable-reads
 
--- src/verdicts.rt:20:9
 kind-of-requires : tie.Need-kind-of-requires
 kind-of-requires c κs = search needs
 
--- src/verdicts.rt:22:9
 returns : tie.Need-returns
 unfolding meant powerOf
 returns c = rw (← c .before .before .kind-of .ensures, c .if1 .taken)
 
--- src/verdicts.rt:25:9
 returns-2 : tie.Need-returns-2
 unfolding meant powerOf
 returns-2 c = rw (← c .before .before .before .kind-of .ensures, not-zero _ (c .before .if1 .left), lt-leb _ _ (c .if2 .taken))
 
--- src/verdicts.rt:27:8
 is-storable-requires : tie.Need-is-storable-requires
 is-storable-requires c κs = search needs
 
--- src/verdicts.rt:28:9
 returns-3 : tie.Need-returns-3
 unfolding meant powerOf
 returns-3 c =
     rw (← c .before .before .before .before .before .kind-of .ensures, not-zero _ (c .before .before .before .if1 .left), le-leb _ _ (c .before .before .if2 .left), ← c .before .is-storable .ensures, not-held (c .before .is-storable .result) (c .if3 .taken))
 
--- src/verdicts.rt:17:1
 returns-4 : tie.Need-returns-4
 unfolding meant powerOf
 returns-4 c =

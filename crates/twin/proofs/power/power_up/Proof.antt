@@ -1,39 +1,29 @@
+-- `twin::power::power_up` meets its contract.
 use Rattle.ground.proofs.Verdicts.{is-accepted, is-refused}
 use borrow.Author.Needs.{needs}
 use Rattle.twin.proofs.power.power_up.Statement.{statement}
 use Rattle.twin.proofs.power.power_up.Tie as tie
-use Rattle.twin.proofs.power.power_up.Reads as reads
-use Rattle.twin.proofs.power.power_up.Lts as lts
-use Rattle.refusals.proofs.verdicts.power.Reads as power-reads
-use Rattle.twin.proofs.power.powered_up.Reads as powered-up-reads
 
--- src/power.rt:76:9
 power-requires : tie.Need-power-requires
 power-requires c κs = search needs
 
--- src/power.rt:80:20
 enum-told : tie.Need-enum-told
 enum-told c = search needs
 
--- src/power.rt:80:20
 powered-up-requires : tie.Need-powered-up-requires
 powered-up-requires c κs = search needs
 
--- src/power.rt:84:20
 enum-told-2 : tie.Need-enum-told-2
 enum-told-2 c = search needs
 
--- src/power.rt:84:20
 powered-up-requires-2 : tie.Need-powered-up-requires-2
 powered-up-requires-2 c κs = search needs
 
--- src/power.rt:73:1
 returns : tie.Need-returns
 returns c =
     let e = is-accepted (c .before .before .before .power .result) _ _ (c .before .before .before .power .ensures) (c .before .enum-told .given .1) in
     record { reply = c .before .before .before .power .ensures; state = rw (c .powered-up .ensures, e) }
 
--- src/power.rt:73:1
 returns-2 : tie.Need-returns-2
 returns-2 c =
     let e = is-refused (c .before .before .before .power .result) _ _ _ (c .before .before .before .power .ensures) (c .before .enum-told2 .given .1) in
