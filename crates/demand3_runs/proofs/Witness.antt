@@ -4,20 +4,8 @@ use mathlib.Core.List.{List}
 use mathlib.Core.Path.{refl, sym, _∙_}
 use lib.ListN.{set, replicate, length-set}
 use lib.Seq.{getD-set-other}
-use Rattle.ground.specs.Kind.{kindOf}
 use Rattle.ground.specs.Numbers.{smallSize}
-use Rattle.part.specs.Timers.{loadedOf, timedOf, suppliedOf}
-use Rattle.part.specs.Lock.{extentOf, lockedOf}
-use Rattle.part.specs.Page.{storeOf}
-use Rattle.wire.specs.Sign.{fallSign, fallFrame, signOf, wireOf}
-use Rattle.refusals.specs.Refusals.{inRange, judgedOf}
-use Rattle.control.specs.Register.{orderOf, carriedOut}
-use Rattle.device.specs.Bytes.{slaveOf, highOf, lowOf, takenOf, byteOf, keptOf, bitOf, ninthOf}
-use Rattle.device.specs.Ends.{startedOf, stoppedOf, endedOf}
-use Rattle.sample.specs.Level.{answerOf}
-use Rattle.sample.specs.Sample.{opensOf, resetOf, startOf, stopOf, byteStep, signIn, seenOf, wiredOf, stepOf, arrayOf}
-use Rattle.sample.specs.Run.{partStep}
-use Rattle.twin.specs.Power.{poweredUp}
+use Rattle.runs.proofs.Opened.{opened}
 use Rattle.demand3.specs.Sending.{sentOf}
 use Rattle.demand3.specs.Differ.{EqualBut, covers}
 use Rattle.demand3_runs.specs.Occurs.{spot, Occurs}
@@ -32,10 +20,7 @@ set-equal-but xs a v w =
 
 -- The runs of demand 3.
 pub occurs : Occurs
-unfolding inRange judgedOf poweredUp partStep stepOf arrayOf opensOf resetOf startOf stopOf byteStep signIn seenOf wiredOf answerOf
-    sentOf covers kindOf loadedOf timedOf suppliedOf extentOf lockedOf storeOf
-    fallSign fallFrame signOf wireOf orderOf carriedOut slaveOf highOf lowOf takenOf byteOf keptOf bitOf ninthOf
-    startedOf stoppedOf endedOf
+unfolding opened sentOf covers
 occurs =
     record {
       arrays = set-equal-but (replicate smallSize 0xFF) spot 0x4C 0x5C;

@@ -4,15 +4,14 @@ use Prim.Native.Nat.{ℕ}
 use mathlib.Core.Bool.{Bool, true, false}
 use mathlib.Core.List.{List, [], _∷_, _++_}
 use mathlib.Core.Path.{_≡_}
-use lib.ListN.{length, take, set, replicate}
+use lib.ListN.{length, set, replicate}
 use Rattle.ground.specs.Numbers.{x4323, smallSize, writeTime}
-use Rattle.ground.specs.Verdict.{accepted}
-use Rattle.refusals.specs.Refusals.{judgedOf}
-use Rattle.sample.specs.Run.{Part, partStep, runOf, answersOf}
+use Rattle.sample.specs.Run.{Part, partStep}
 use Rattle.twin.specs.Power.{poweredUp}
 use Rattle.demand3.specs.Sending.{nothing}
 use Rattle.demand3.specs.Differ.{When, never, sample, EqualBut, firstReach, firstDiff, firstCover, elsewhere, sentAfter, coversNone}
-use Rattle.waves.specs.Waves.{Capture, joined, after, wait, awake, written, ordered, readAt}
+use Rattle.waves.specs.Waves.{Capture, joined, upTo, after, brisk, wait, awake, pageWrite, registerWrite, readFrom}
+use Rattle.runs.specs.Runs.{partAfter, answersTo, Taken}
 use Rattle.demand3_runs.specs.Under.{Step, holdsFor}
 
 -- The address at which the arrays differ.
@@ -41,15 +40,15 @@ lockedRight = holding 0x18 0x5C
 
 -- The address is read (Bytes on the wire, read).
 abbrev pub readIt : Capture
-readIt = joined (awake ++ readAt spot)
+readIt = joined (awake ++ brisk (readFrom 0 spot 1) ∷ [])
 
 -- Another address is read (Bytes on the wire, read).
 abbrev pub readOther : Capture
-readOther = joined (awake ++ readAt 0x0346)
+readOther = joined (awake ++ brisk (readFrom 0 0x0346 1) ∷ [])
 
 -- A byte is sent to the address, and after the write time the address is read (Bytes on the wire, array data, stop, read).
 abbrev pub writeAndRead : List Capture
-writeAndRead = written spot (0x77 ∷ []) ++ wait writeTime ∷ readAt spot
+writeAndRead = brisk (pageWrite 0 spot (0x77 ∷ [])) ∷ wait writeTime ∷ brisk (readFrom 0 spot 1) ∷ []
 
 -- That with WEL low, so that the byte is withheld (Bytes on the wire, array data).
 abbrev pub unsetWrite : Capture
@@ -57,7 +56,7 @@ unsetWrite = joined (awake ++ writeAndRead)
 
 -- That with WEL set (Control register, RWEL low).
 abbrev pub setWrite : Capture
-setWrite = joined (awake ++ ordered 0x02 ++ writeAndRead)
+setWrite = joined (awake ++ brisk (registerWrite 0 0x02) ∷ writeAndRead)
 
 -- So many samples into that capture the byte has been fetched and its second bit is out.
 abbrev pub partWay : ℕ
@@ -65,24 +64,19 @@ partWay = 121
 
 -- The state there over the array of a part: the byte being sent was fetched before (State and time, a byte being sent).
 abbrev pub midway : Part → Part
-midway p =
-    record { state = runOf (take partWay (readIt .times)) (take partWay (readIt .levels)) left .state; array = p .array }
+midway p = record { state = partAfter (upTo partWay readIt) left .state; array = p .array }
 
 -- Another address is read, then the address is covered, with WEL set (Bytes on the wire, array data, stop, read).
 abbrev pub readThenWrite : Capture
-readThenWrite = joined (awake ++ readAt 0x0346 ++ ordered 0x02 ++ writeAndRead)
-
--- The first so many samples of a capture.
-abbrev pub cutAt : ℕ → Capture → Capture
-cutAt n c = record { times = take n (c .times); levels = take n (c .levels) }
+readThenWrite = joined (awake ++ brisk (readFrom 0 0x0346 1) ∷ brisk (registerWrite 0 0x02) ∷ writeAndRead)
 
 -- The read cut off after its third bit: the byte of the address is being sent, and only equal bits have been out.
 abbrev pub cutRead : Capture
-cutRead = cutAt 124 readIt
+cutRead = upTo 124 readIt
 
 -- The byte being sent after a capture, as far as it is not sent yet (State and time, a byte being sent).
 abbrev pub stillHeld : Part → Capture → ℕ
-stillHeld p c = runOf (c .times) (c .levels) p .state .device .talk .out
+stillHeld p c = partAfter c p .state .device .talk .out
 
 -- Demand 3 of a step, two parts and a capture, as far as it is computed: see holdsFor (demand 3).
 abbrev pub holdsOf : Step → Part → Part → Capture → Bool
@@ -98,9 +92,9 @@ uncoveredBy c = coversNone spot (c .times) (c .levels) left
 
 -- Under the sheet's rules: where a bit is reached and the answers differ, where the address is covered; demand 3 holds.
 pub record Comes (p q : Part) (c : Capture) (reach cover : When) : Type 0 where
-  pub taken : judgedOf (p .state) (c .times) (c .levels) (p .array) (replicate (length (c .levels)) 0) ≡ accepted (length (c .levels))
+  pub taken : Taken c p
   pub reached : firstReach spot 0 (c .times) (c .levels) p q nothing nothing ≡ reach
-  pub differ : firstDiff 0 (answersOf (c .times) (c .levels) p) (answersOf (c .times) (c .levels) q) ≡ reach
+  pub differ : firstDiff 0 (answersTo c p) (answersTo c q) ≡ reach
   pub covered : firstCover spot 0 (c .times) (c .levels) p ≡ cover
   pub demanded : holdsOf partStep p q c ≡ true
 
@@ -117,7 +111,7 @@ pub record Occurs : Type 0 where
   pub before : Comes (midway left) (midway right) (after partWay readIt) never never
   pub passed : Comes left right readThenWrite never (sample 375)
   -- what is being sent, and whether a write covers
-  pub from : (elsewhereAfter cutRead ≡ false) × (elsewhereAfter (cutAt 124 readOther) ≡ true)
+  pub from : (elsewhereAfter cutRead ≡ false) × (elsewhereAfter (upTo 124 readOther) ≡ true)
   pub covering : (uncoveredBy unsetWrite ≡ true) × (uncoveredBy setWrite ≡ false)
   -- cut off before the unequal bit, the states differ in the byte being sent, and in nothing else by demand 3
   pub cut : Comes left right cutRead never never

@@ -1,26 +1,8 @@
 -- The bench cases of captures: what a part that is powered up answers and holds after the traffic of each case. No axiom is used.
-use Prim.Native.Nat.{ℕ}
 use mathlib.Core.Path.{refl}
 use Rattle.ground.specs.Numbers.{x4323, x4325}
-use Rattle.ground.specs.Kind.{kindOf}
-use Rattle.part.specs.Timers.{loadedOf, timedOf, suppliedOf}
-use Rattle.part.specs.Lock.{extentOf, lockedOf}
-use Rattle.part.specs.Page.{storeOf}
-use Rattle.wire.specs.Sign.{fallSign, fallFrame, signOf, wireOf}
-use Rattle.refusals.specs.Refusals.{inRange, judgedOf}
-use Rattle.control.specs.Register.{orderOf, carriedOut}
-use Rattle.device.specs.Bytes.{slaveOf, highOf, lowOf, takenOf, byteOf, keptOf, bitOf, ninthOf}
-use Rattle.device.specs.Ends.{startedOf, stoppedOf, endedOf}
-use Rattle.sample.specs.Level.{answerOf}
-use Rattle.sample.specs.Sample.{opensOf, resetOf, startOf, stopOf, byteStep, signIn, seenOf, wiredOf, stepOf, arrayOf}
-use Rattle.sample.specs.Run.{partStep}
-use Rattle.twin.specs.Power.{poweredUp}
+use Rattle.runs.proofs.Opened.{opened}
 use Rattle.run_cases.specs.RunCases.{P1, P5, P6, P7, P8, P9}
-
--- Every rule is opened where this is, so that a capture can be computed.
-unfoldable opened : ℕ
-unfolding inRange judgedOf kindOf extentOf lockedOf storeOf loadedOf timedOf suppliedOf fallSign fallFrame signOf wireOf orderOf carriedOut slaveOf highOf lowOf takenOf byteOf keptOf bitOf ninthOf startedOf stoppedOf endedOf answerOf opensOf resetOf startOf stopOf byteStep signIn seenOf wiredOf stepOf arrayOf partStep poweredUp
-opened = 0
 
 -- P1: reset.
 pub p1 : P1

@@ -11,35 +11,27 @@ use Rattle.part.specs.Lock.{blockCode}
 use Rattle.part.specs.Timers.{watchCode}
 use Rattle.part.specs.Page.{at}
 use Rattle.part.specs.declared.state.Control.{Control}
-use Rattle.ground.specs.Verdict.{accepted}
-use Rattle.refusals.specs.Refusals.{judgedOf}
 use Rattle.control.specs.Register.{readsOf}
 use Rattle.twin.specs.Power.{poweredUp}
-use Rattle.sample.specs.Run.{Part, runOf, answersOf}
-use Rattle.waves.specs.Waves.{Capture, joined, wait, start, sent, awake, written, ordered, readAt}
+use Rattle.sample.specs.Run.{Part}
+use Rattle.waves.specs.Waves.{Capture, joined, brisk, wait, awake, start, sent, pageWrite, registerWrite, readFrom}
+use Rattle.runs.specs.Runs.{partAfter, answersTo, Taken}
 
 -- A part at power-up, with select 0, stored byte 00h and an array all FFh (State and time, power-up).
 abbrev pub fresh : ℕ → Part
 fresh part = record { state = poweredUp part 0 0; array = replicate (kindOf part .size) 0xFF }
 
--- Such a part after moves (State and time, each sample).
+-- Such a part after captures, one after the other (State and time, each sample).
 abbrev pub partOf : ℕ → List Capture → Part
-partOf part ms = runOf (joined ms .times) (joined ms .levels) (fresh part)
+partOf part cs = partAfter (joined cs) (fresh part)
 
 -- Its answers, a byte for each sample (What goes in and what comes out).
 abbrev pub answers : ℕ → List Capture → List ℕ
-answers part ms = answersOf (joined ms .times) (joined ms .levels) (fresh part)
+answers part cs = answersTo (joined cs) (fresh part)
 
--- The replay of such moves is accepted, with as many samples as there are (Refusal numbers, 4 to 10).
+-- A replay takes them (Refusal numbers, 4 to 10).
 abbrev pub Accepted : ℕ → List Capture → Type 0
-Accepted part ms =
-    judgedOf
-    (fresh part .state)
-    (joined ms .times)
-    (joined ms .levels)
-    (fresh part .array)
-    (replicate (length (joined ms .levels)) 0)
-    ≡ accepted (length (joined ms .levels))
+Accepted part cs = Taken (joined cs) (fresh part)
 
 -- Four samples of good VCC: the first, then 100,000 + 99,999, then 1 (State and time, 1 and 2).
 abbrev pub heldReset : List Capture
@@ -57,7 +49,11 @@ lastAnswers n row = drop (length row - n) row
 
 -- Twelve bytes from an address on, with WEL set before (Bytes on the wire, array data).
 abbrev pub twelve : ℕ → List Capture
-twelve address = awake ++ ordered 2 ++ written address (1 ∷ 2 ∷ 3 ∷ 4 ∷ 5 ∷ 6 ∷ 7 ∷ 8 ∷ 9 ∷ 10 ∷ 11 ∷ 12 ∷ [])
+twelve address =
+    awake
+    ++ brisk (registerWrite 0 2)
+    ∷ brisk (pageWrite 0 address (1 ∷ 2 ∷ 3 ∷ 4 ∷ 5 ∷ 6 ∷ 7 ∷ 8 ∷ 9 ∷ 10 ∷ 11 ∷ 12 ∷ []))
+    ∷ []
 
 -- A page that they fill from its place 60 on, the last four of it first (Bench cases, P5).
 abbrev pub wrapped : List ℕ
@@ -73,7 +69,7 @@ pub record P5 (part : ℕ) : Type 0 where
 
 -- A start and a slave byte (Bytes on the wire, after a start).
 abbrev pub calls : ℕ → List Capture
-calls v = awake ++ (start ∷ sent v ∷ [])
+calls v = awake ++ brisk (start ++ sent v) ∷ []
 
 -- The last four answers to it: from its eighth fall to its ninth, which ends the acknowledge; after A1h the first bit of FFh is out.
 abbrev pub toSlave : ℕ → ℕ → List ℕ
@@ -89,11 +85,11 @@ pub record P6 (part low high : ℕ) : Type 0 where
 
 -- Three register bytes, each with its start and stop (Control register).
 abbrev pub three : ℕ → ℕ → ℕ → List Capture
-three u v w = awake ++ ordered u ++ ordered v ++ ordered w
+three u v w = awake ++ brisk (registerWrite 0 u) ∷ brisk (registerWrite 0 v) ∷ brisk (registerWrite 0 w) ∷ []
 
 -- The register chosen and read once the write time is over; the last 30 answers are its byte, the ninth clock and the stop's (Bytes on the wire).
 abbrev pub readsRegister : List Capture
-readsRegister = wait writeTime ∷ readAt registerAddress
+readsRegister = wait writeTime ∷ brisk (readFrom 0 registerAddress 1) ∷ []
 
 -- The SDA bit of each answer in the middle of three, where SCL is high.
 abbrev pub clockedBits : List ℕ → List ℕ
@@ -118,14 +114,14 @@ latched = record { stored = 0; wel = true; rwel = true; chosen = false; pending 
 -- 67h as third byte changes nothing: as after 02h and 06h, RWEL stays, and no write time runs (Bench cases, P8).
 pub record P8 (part : ℕ) : Type 0 where
   pub taken : Accepted part (three 0x02 0x06 0x67)
-  pub before : partOf part (awake ++ ordered 0x02 ++ ordered 0x06) .state .device .control ≡ latched
+  pub before : partOf part (awake ++ brisk (registerWrite 0 0x02) ∷ brisk (registerWrite 0 0x06) ∷ []) .state .device .control ≡ latched
   pub same : partOf part (three 0x02 0x06 0x67) .state .device .control ≡ latched
   pub time : partOf part (three 0x02 0x06 0x67) .state .timers .write ≡ 0
   pub array : partOf part (three 0x02 0x06 0x67) .array ≡ replicate (kindOf part .size) 0xFF
 
 -- A byte written, then 4,999 and 1 more (Bytes on the wire, stop).
 abbrev pub written5000 : List Capture
-written5000 = awake ++ ordered 2 ++ written 0 (1 ∷ []) ++ (wait 4999 ∷ wait 1 ∷ [])
+written5000 = awake ++ brisk (registerWrite 0 2) ∷ brisk (pageWrite 0 0 (1 ∷ [])) ∷ wait 4999 ∷ wait 1 ∷ []
 
 -- The write time ends at 5,000, not at 4,999: `writing` is the answer byte while it runs, `done` after it (Bench cases, P9).
 pub record P9 (part writing done : ℕ) : Type 0 where

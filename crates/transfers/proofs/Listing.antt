@@ -1,26 +1,16 @@
 -- Laws of the turn of the list's loop. Assumes nothing.
-use Prim.Native.Nat.{ℕ, suc, _+_, _-_, _<_, _≤_, min}
-use mathlib.Core.Bool.{Bool, true, false}
+use Prim.Native.Nat.{ℕ, _+_, _<_, _≤_, min}
 use mathlib.Core.List.{List, [], _∷_, _++_}
 use mathlib.Core.Path.{_≡_, refl, sym, ap, _∙_}
 use native.Mathlib.Omega.{arith}
 use native.Mathlib.Numerals.{add-one}
-use lib.Dec.{ltb}
 use lib.ListN.{length, getD, drop, length-append, length-map, length-drop}
 use lib.Seq.{drop-cons}
-use borrow.Author.Tests.{ltb-true, ltb-false, lt-ltb, le-ltb}
 use Rattle.entries.specs.Entries.{Placed, placedAt, laidFrom, Says}
 use Rattle.entries.proofs.Laid.{laid-append}
 use Rattle.sample.specs.Run.{Part, partStep, runOf}
-use Rattle.transfers.specs.Transfers.{entriesOf, sampleSays}
-
--- A write cycle goes on after a time exactly if it has more than that left.
-pub goes-on : (e w : ℕ) → ltb 0 (w - e) ≡ ltb e w
-goes-on e w = by (ltb e w) refl
-  where
-    by : (b : Bool) → ltb e w ≡ b → ltb 0 (w - e) ≡ ltb e w
-    by true h = lt-ltb 0 (w - e) (omega (arith, ltb-true e w h)) ∙ sym h
-    by false h = le-ltb 0 (w - e) (omega (arith, ltb-false e w h)) ∙ sym h
+use Rattle.said.specs.Said.{sampleSays}
+use Rattle.transfers.specs.Transfers.{entriesOf}
 
 -- One sample listed: what is left to list from the next part gives the same.
 module _ (es ls row row′ : List ℕ) (i at r : ℕ) (p q : Part) (h : i < length es) (k : i < length ls)

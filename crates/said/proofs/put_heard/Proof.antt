@@ -1,9 +1,9 @@
--- `transfers::put_heard` meets its contract: the sign is that of the state before and the sample's levels.
+-- `said::put_heard` meets its contract: the sign is that of the state before and the sample's levels.
 use Rattle.sample.specs.Sample.{signIn}
 use Rattle.entries.proofs.Laid.{says-none}
 use borrow.Author.Needs.{needs}
-use Rattle.transfers.proofs.put_heard.Statement.{statement}
-use Rattle.transfers.proofs.put_heard.Tie as tie
+use Rattle.said.proofs.put_heard.Statement.{statement}
+use Rattle.said.proofs.put_heard.Tie as tie
 
 returns : tie.Need-returns
 returns c = rw (c .if1 .taken) (says-none _ _ _)

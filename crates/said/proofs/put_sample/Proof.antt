@@ -1,10 +1,10 @@
--- `transfers::put_sample` meets its contract: four pieces, one after the other.
-use Rattle.transfers.specs.Transfers.{sampleSays}
+-- `said::put_sample` meets its contract: four pieces, one after the other.
+use Rattle.said.specs.Said.{sampleSays}
 use Rattle.entries.proofs.Laid.{says-both}
-use Rattle.transfers.proofs.Listing.{goes-on}
+use Rattle.said.proofs.Cycles.{goes-on}
 use borrow.Author.Needs.{needs}
-use Rattle.transfers.proofs.put_sample.Statement.{statement}
-use Rattle.transfers.proofs.put_sample.Tie as tie
+use Rattle.said.proofs.put_sample.Statement.{statement}
+use Rattle.said.proofs.put_sample.Tie as tie
 
 put-edge-requires : tie.Need-put-edge-requires
 put-edge-requires c κs = search needs
