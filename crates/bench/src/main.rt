@@ -1,15 +1,14 @@
 // Replays the cases on standard input and writes a reply for each to standard output.
-mod cases;
-mod replies;
-mod rounds;
-mod trials;
 
-use cases::Said;
 use form::headers;
 use form::headers::Header;
 use form::words;
 use libc::STDOUT_FILENO;
 use reading::rooms;
+use trials::cases;
+use trials::cases;
+use trials::cases::Said;
+use trials::cases::Said;
 
 fn write(row: &[u8]) -> bool {
     io::write_all(STDOUT_FILENO, row)
