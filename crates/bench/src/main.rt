@@ -5,9 +5,8 @@ use form::headers::Header;
 use form::words;
 use libc::STDOUT_FILENO;
 use reading::rooms;
+use texts::cases::Lengths;
 use trials::cases;
-use trials::cases;
-use trials::cases::Said;
 use trials::cases::Said;
 
 fn write(row: &[u8]) -> bool {
@@ -57,29 +56,31 @@ fn lend(
     let levels_length = header.levels as usize;
     let answers_length = header.answers as usize;
     let raw_length = elapsed_length * words::WORD;
-    if array_length > array.len() {
-        return false;
+    let case = Lengths {
+        array: array_length,
+        raw: raw_length,
+        elapsed: elapsed_length,
+        levels: levels_length,
+        answers: answers_length,
+    };
+    let room = Lengths {
+        array: array.len(),
+        raw: raw.len(),
+        elapsed: elapsed.len(),
+        levels: levels.len(),
+        answers: answers.len(),
+    };
+    if texts::cases::fits(case, room) {
+        return reply(
+            header,
+            &mut array[..array_length],
+            &mut raw[..raw_length],
+            &mut elapsed[..elapsed_length],
+            &mut levels[..levels_length],
+            &mut answers[..answers_length],
+        );
     }
-    if raw_length > raw.len() {
-        return false;
-    }
-    if elapsed_length > elapsed.len() {
-        return false;
-    }
-    if levels_length > levels.len() {
-        return false;
-    }
-    if answers_length > answers.len() {
-        return false;
-    }
-    reply(
-        header,
-        &mut array[..array_length],
-        &mut raw[..raw_length],
-        &mut elapsed[..elapsed_length],
-        &mut levels[..levels_length],
-        &mut answers[..answers_length],
-    )
+    false
 }
 
 // Serves one case; false where the input has no more, or the case is cut off or too long.

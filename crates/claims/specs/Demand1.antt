@@ -18,10 +18,12 @@ use Rattle.twin.specs.declared.power.Size.{Size}
 use Rattle.twin.specs.Power.{poweredUp, sizeMeant}
 use Rattle.twin.specs.Promises.{PowersUp, Replays, SizesPart}
 use lib.Dec.{leb}
-use Rattle.image.specs.Form.{largestSize}
-use Rattle.image.specs.Reading.{bad, readingOf}
-use Rattle.image.specs.Promises.{imageBy, imageOf, writeVerdict, ReadsImage, WritesImage}
-use Rattle.tidying.specs.Shown.{refusalLine, shownOf, Starts}
+use Rattle.intel.specs.Intel.{intel}
+use Rattle.forms.specs.Reading.{bad, readingOf}
+use Rattle.image.specs.Promises.{largestSize, imageBy, imageOf, writeVerdict, ReadsImage, WritesImage}
+use Rattle.texts.specs.Refusal.{refusalLine}
+use Rattle.texts.specs.Laying.{Starts}
+use Rattle.tidying.specs.Shown.{shownOf}
 use Rattle.telling.specs.Told.{ReadsThrough, WritesThrough}
 use Rattle.door.specs.Promises.{ReplaysOnce}
 
@@ -34,11 +36,11 @@ pub record Demand1 : Type 0 where
       → Replays s es ls array row r array′ row′ → judgedOf s es ls array row ≡ refused k p
       → (meant (r .reply) ≡ refused k p) × (r .state ≡ s) × (array′ ≡ array) × (row′ ≡ row)
   pub read-image : (size : ℕ) (text array : List ℕ) (r : Reply) (array′ : List ℕ) (k p : ℕ)
-      → ReadsImage size text array r array′ → imageOf size text array ≡ bad k p → (meant r ≡ refused k p) × (array′ ≡ array)
+      → ReadsImage intel size text array r array′ → imageOf intel size text array ≡ bad k p → (meant r ≡ refused k p) × (array′ ≡ array)
   pub write-image : (size : ℕ) (array out : List ℕ) (r : Reply) (out′ : List ℕ) (k p : ℕ)
-      → WritesImage size array out r out′ → writeVerdict size array out ≡ refused k p → (meant r ≡ refused k p) × (out′ ≡ out)
+      → WritesImage intel size array out r out′ → writeVerdict intel size array out ≡ refused k p → (meant r ≡ refused k p) × (out′ ≡ out)
   pub tidy : (size : ℕ) (text out : List ℕ) (r : ℕ) (out′ : List ℕ) (k p : ℕ)
-      → Starts (shownOf size text) out r out′ → imageBy (leb size largestSize) (readingOf size text) ≡ bad k p
+      → Starts (shownOf size text) out r out′ → imageBy (leb size largestSize) (readingOf intel size text) ≡ bad k p
       → (r ≡ length (refusalLine k p)) × (out′ ≡ refusalLine k p ++ drop r out)
   pub size : (part : ℕ) (r : Size) → SizesPart part r → known part ≡ false → sizeMeant r ≡ refused 1 0
   pub door-power-up : (part select stored : ℕ) (es ls array row numbers : List ℕ) (r : ℕ) (array′ row′ numbers′ : List ℕ) (k p : ℕ)
@@ -50,10 +52,10 @@ pub record Demand1 : Type 0 where
       → powerOf part select stored ≡ accepted n → judgedOf (poweredUp part select stored) es ls array row ≡ refused k p
       → (r ≡ 1) × (numbers′ ≡ k ∷ p ∷ []) × (array′ ≡ array) × (row′ ≡ row)
   pub door-read-image : (size : ℕ) (text array numbers : List ℕ) (r : ℕ) (array′ numbers′ : List ℕ) (k p : ℕ)
-      → ReadsThrough size text array numbers r array′ numbers′ → length numbers ≡ 2 → imageOf size text array ≡ bad k p
+      → ReadsThrough size text array numbers r array′ numbers′ → length numbers ≡ 2 → imageOf intel size text array ≡ bad k p
       → (r ≡ 1) × (numbers′ ≡ k ∷ p ∷ []) × (array′ ≡ array)
   pub door-write-image : (size : ℕ) (array out numbers : List ℕ) (r : ℕ) (out′ numbers′ : List ℕ) (k p : ℕ)
-      → WritesThrough size array out numbers r out′ numbers′ → length numbers ≡ 2 → writeVerdict size array out ≡ refused k p
+      → WritesThrough size array out numbers r out′ numbers′ → length numbers ≡ 2 → writeVerdict intel size array out ≡ refused k p
       → (r ≡ 1) × (numbers′ ≡ k ∷ p ∷ []) × (out′ ≡ out)
   -- a replay says a refusal only where the table has it
   pub only : (s : State) (es ls array row : List ℕ) (r : Replayed) (array′ row′ : List ℕ) (k p : ℕ)

@@ -9,8 +9,10 @@ use Rattle.part.specs.declared.state.State.{State}
 use Rattle.ground.specs.declared.Reply.{Reply}
 use Rattle.twin.specs.declared.replays.Replayed.{Replayed}
 use Rattle.twin.specs.Promises.{PowersUp, Replays, ReadsRegister, SizesPart}
+use Rattle.intel.specs.Intel.{intel}
 use Rattle.image.specs.Promises.{ReadsImage, WritesImage}
-use Rattle.tidying.specs.Shown.{shownOf, Starts}
+use Rattle.texts.specs.Laying.{Starts}
+use Rattle.tidying.specs.Shown.{shownOf}
 use Rattle.telling.specs.Told.{ReadsThrough, WritesThrough}
 use Rattle.door.specs.Promises.{ReplaysOnce}
 use Rattle.transfers.specs.declared.Listed.{Listed}
@@ -28,8 +30,8 @@ pub record OneReply : Type 0 where
   pub register : (s : State) → OnlyOne (ReadsRegister s)
   pub size : (part : ℕ) → OnlyOne (SizesPart part)
   pub read-image : (size : ℕ) (text array : List ℕ)
-      → OnlyOne (λ ((r, array′) : Reply × List ℕ). ReadsImage size text array r array′)
-  pub write-image : (size : ℕ) (array out : List ℕ) → OnlyOne (λ ((r, out′) : Reply × List ℕ). WritesImage size array out r out′)
+      → OnlyOne (λ ((r, array′) : Reply × List ℕ). ReadsImage intel size text array r array′)
+  pub write-image : (size : ℕ) (array out : List ℕ) → OnlyOne (λ ((r, out′) : Reply × List ℕ). WritesImage intel size array out r out′)
   pub tidy : (size : ℕ) (text out : List ℕ) → OnlyOne (λ ((r, out′) : ℕ × List ℕ). Starts (shownOf size text) out r out′)
   pub door-replay : (part select stored : ℕ) (es ls array row numbers : List ℕ)
       → OnlyOne (λ ((r, array′, row′, numbers′) : ℕ × List ℕ × List ℕ × List ℕ). ReplaysOnce part select stored es ls array row numbers r array′ row′ numbers′)

@@ -1,7 +1,7 @@
 -- Laws of the pairs of digits and of the sums that the proofs cite. Assumes nothing.
 use Prim.Native.Nat.{ℕ, suc, _+_, _*_, _/_, _%_, _<_, _≤_}
 use mathlib.Core.Bool.{true, false, true≢false, _&&_}
-use mathlib.Core.List.{List, [], _∷_}
+use mathlib.Core.List.{List, [], _∷_, _++_}
 use mathlib.Core.Path.{_≡_, refl}
 use native.Mathlib.Omega.{arith}
 use native.Mathlib.Numerals.{add-one}
@@ -9,9 +9,9 @@ use lib.ListN.{length, getD, drop, set}
 use lib.Seq.{drop-cons, sets}
 use borrow.Author.Tests.{ltb-true}
 use Rattle.ground.specs.Numbers.{byteValues}
-use Rattle.hexfile.specs.Digits.{base, digitOf, isDigit, glyphOf}
+use Rattle.digits.specs.Digits.{base, digitOf, isDigit, glyphOf}
 use Rattle.hexfile.specs.Pairs.{pairOf, paired, pairsOf, textOf, sumOf}
-use Rattle.hexfile.proofs.DigitLaws.{glyph-written, glyph-digit}
+use Rattle.digits.proofs.DigitLaws.{glyph-written, glyph-digit}
 use Rattle.ground.proofs.Tests.{and-split}
 
 -- The byte of two digits is one.
@@ -80,3 +80,12 @@ encode-turn bytes out to i b p e =
 pub sum-turn : (bytes : List ℕ) (total i : ℕ) → i < length bytes
     → ((total + getD bytes i 0) % 256 + sumOf (drop (i + 1) bytes)) % 256 ≡ (total + sumOf (drop i bytes)) % 256
 sum-turn bytes total i p = rw (add-one i, drop-cons bytes i 0 p) (omega arith)
+
+-- The digits of bytes that follow each other.
+pub text-append : (xs bs : List ℕ) → textOf (xs ++ bs) ≡ textOf xs ++ textOf bs
+text-append [] bs = refl
+text-append (a ∷ xs) bs = rw (text-append xs bs)
+
+pub sum-append : (xs bs : List ℕ) → sumOf (xs ++ bs) ≡ sumOf xs + sumOf bs
+sum-append [] bs = omega arith
+sum-append (a ∷ xs) bs = rw (sum-append xs bs) (omega arith)

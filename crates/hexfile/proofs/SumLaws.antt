@@ -8,6 +8,7 @@ use lib.ListN.{length, take, drop, set, replicate, length-drop}
 use lib.Seq.{take-suc-set, take-all, take-add, take-at, drop-at, take-append-le, length-take-le}
 use Rattle.hexfile.specs.Pairs.{sumOf}
 use Rattle.hexfile.specs.Promises.{SumsUp}
+use Rattle.hexfile.proofs.PairLaws.{sum-append}
 
 -- One turn of the clearing: a nought is stored, and what is left is cleared after it.
 pub clear-turn : (row : List ℕ) (i n : ℕ) → i < length row → length row ≡ n
@@ -22,11 +23,7 @@ clear-done row i n h k e =
     let z : n - i ≡ 0 = omega arith in
     sym (append-nil row) ∙ (rw (z, take-all i row h) at e)
 
--- Bytes add up part by part, and noughts to nothing.
-sum-append : (xs ys : List ℕ) → sumOf (xs ++ ys) ≡ sumOf xs + sumOf ys
-sum-append [] ys = omega arith
-sum-append (x ∷ xs) ys = omega (arith, sum-append xs ys)
-
+-- Noughts add up to nothing.
 sum-noughts : (k n : ℕ) → sumOf (take k (replicate n 0)) ≡ 0
 sum-noughts zero n = refl
 sum-noughts (suc k) zero = refl

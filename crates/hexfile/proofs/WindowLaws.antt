@@ -1,72 +1,29 @@
 -- Laws of what is tested and decoded many characters at a time. Assumes nothing.
 use Prim.Native.Nat.{ℕ, zero, suc, _+_, _*_, _-_, _/_, _%_, _<_, _≤_}
-use mathlib.Core.Bool.{Bool, true, false, _&&_, _||_, true≢false, and-assoc, and-false, and-true, or-assoc, or-false}
+use mathlib.Core.Bool.{Bool, true, false, _&&_, true≢false, and-assoc, and-false, and-true}
 use mathlib.Core.List.{List, [], _∷_, _++_, append-assoc, append-nil}
 use mathlib.Core.Path.{_≡_, refl, ap, sym, _∙_}
 use native.Mathlib.Omega.{arith}
-use lib.Dec.{eqb, ltb}
 use lib.ListN.{length, getD, take, drop, set, length-drop, take-append-drop, drop-of-length-le}
 use lib.Seq.{drop-cons, take-suc-set, take-all, take-add, take-at, drop-at, take-take, take-append-le, length-take-le}
-use borrow.Author.Tests.{lt-ltb, le-ltb}
 use Rattle.ground.proofs.Tests.{and-split}
-use Rattle.hexfile.specs.Digits.{within, digitBy, digitOf, isDigit}
-use Rattle.hexfile.specs.Lines.{lineFeed}
+use Rattle.digits.specs.Digits.{isDigit}
 use Rattle.hexfile.specs.Pairs.{paired, pairsOf}
-use Rattle.hexfile.specs.Parts.{shiftBy, valueOf, valuesOf, allDigits, feedIn}
+use Rattle.digits.specs.Values.{valueOf}
+use Rattle.hexfile.specs.Parts.{valuesOf, allDigits}
 use Rattle.hexfile.specs.Promises.{Decodes}
-use Rattle.hexfile.proofs.DigitLaws.{within-true}
+use Rattle.digits.proofs.DigitLaws.{value-digit}
+use Rattle.lines.proofs.PartLaws.{tail-whole}
 use Rattle.hexfile.proofs.PairLaws.{two}
-
--- A figure or a letter is a digit, and nothing else is.
-pub digit-test : (c : ℕ) {a b : Bool} → a ≡ within 0x30 0x39 c → b ≡ within 0x41 0x46 c → a || b ≡ isDigit c
-unfolding digitOf
-digit-test c e f = rw (e, f) (go (within 0x30 0x39 c) (within 0x41 0x46 c) refl refl)
-  where
-    go : (u v : Bool) → within 0x30 0x39 c ≡ u → within 0x41 0x46 c ≡ v → u || v ≡ ltb (digitBy u v c) 16
-    go true v p q = let t = within-true 0x30 0x39 c p in rw (lt-ltb (c - 0x30) 16 (omega arith))
-    go false true p q = let t = within-true 0x41 0x46 c q in rw (lt-ltb (c - 0x37) 16 (omega arith))
-    go false false p q = refl
-
--- The value of a digit is what it reads as.
-value-digit : (c : ℕ) → isDigit c ≡ true → valueOf c ≡ digitOf c
-unfolding digitOf valueOf
-value-digit c e = go (within 0x30 0x39 c) (within 0x41 0x46 c) refl refl e
-  where
-    go : (u v : Bool) → within 0x30 0x39 c ≡ u → within 0x41 0x46 c ≡ v → ltb (digitBy u v c) 16 ≡ true
-        → (c % 16 + shiftBy (ltb c 0x41)) % 16 ≡ digitBy u v c
-    go true v p q h =
-        let t = within-true 0x30 0x39 c p in
-        rw (lt-ltb c 0x41 (omega arith)) (omega arith)
-    go false true p q h =
-        let t = within-true 0x41 0x46 c q in
-        rw (le-ltb c 0x41 (omega arith)) (omega arith)
-    go false false p q h = absurd (true≢false (cc))
-
-pub shift-small : (b : Bool) → shiftBy b < 10
-shift-small true = omega arith
-shift-small false = omega arith
-
-pub value-small : (c : ℕ) {v : ℕ} → v ≡ valueOf c → v < 16
-unfolding valueOf
-value-small c e = rw e (omega arith)
 
 -- One turn of the tests: a character is tested, and what is left after it.
 pub all-turn : (text : List ℕ) (all : Bool) (i : ℕ) {d : Bool} → i < length text → d ≡ isDigit (getD text i 0)
     → ((all && d) && allDigits (drop (suc i) text)) ≡ (all && allDigits (drop i text))
 all-turn text all i {d} h e = rw (and-assoc all d (allDigits (drop (suc i) text)), drop-cons text i 0 h, e)
 
-pub feed-turn : (text : List ℕ) (any : Bool) (i : ℕ) → i < length text
-    → ((any || eqb (getD text i 0) lineFeed) || feedIn (drop (suc i) text)) ≡ (any || feedIn (drop i text))
-feed-turn text any i h =
-    rw (or-assoc any (eqb (getD text i 0) lineFeed) (feedIn (drop (suc i) text)), drop-cons text i 0 h)
-
 pub all-done : (text : List ℕ) (all : Bool) (i : ℕ) {whole : Bool} → length text ≤ i
     → (all && allDigits (drop i text)) ≡ whole → all ≡ whole
 all-done text all i h e = sym (and-true all) ∙ (rw (drop-of-length-le text h) at e)
-
-pub feed-done : (text : List ℕ) (any : Bool) (i : ℕ) {whole : Bool} → length text ≤ i
-    → (any || feedIn (drop i text)) ≡ whole → any ≡ whole
-feed-done text any i h e = sym (or-false any) ∙ (rw (drop-of-length-le text h) at e)
 
 -- Digits are tested part by part, and a second test of some of them tells nothing new.
 pub all-append : (xs ys : List ℕ) → allDigits (xs ++ ys) ≡ (allDigits xs && allDigits ys)
@@ -90,10 +47,6 @@ pub all-two : (xs : List ℕ) (i j : ℕ) (a : Bool) {b : Bool} → j ≤ i → 
     → a && b ≡ allDigits xs
 all-two xs i j true h e f = f ∙ all-overlap xs i j h (sym e)
 all-two xs i j false h e f = sym (all-take xs i (sym e))
-
--- The part of a list from an index to its end is all that follows the index.
-pub tail-whole : (a : ℕ) (xs : List ℕ) → take (length xs - a) (drop a xs) ≡ drop a xs
-tail-whole a xs = take-all (length xs - a) (drop a xs) (simp length-drop (omega arith))
 
 -- The last sixteen, or all of fewer: in two parts that overlap, or in one.
 pub ends-some : (text : List ℕ) {a b : Bool} → length text < 16 → a ≡ allDigits (take 8 text)

@@ -4,7 +4,7 @@ use mathlib.Core.Bool.{Bool, true, false, _&&_}
 use mathlib.Core.List.{List, [], _∷_}
 use lib.Dec.{eqb}
 use Rattle.ground.specs.Numbers.{byteValues}
-use Rattle.hexfile.specs.Digits.{base, digitOf, isDigit, glyphOf}
+use Rattle.digits.specs.Digits.{base, digitOf, isDigit, glyphOf}
 
 -- The byte of two digits, the higher first (Image files).
 abbrev pub pairOf : ℕ → ℕ → ℕ

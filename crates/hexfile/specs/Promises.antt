@@ -1,11 +1,10 @@
--- What decoding, adding up and giving promise, in named parts. The room is scratch: nothing is said of what it holds beside the bytes.
+-- What decoding and adding up promise, in named parts. The room is scratch: nothing is said of what it holds beside the bytes.
 use Prim.Native.Nat.{ℕ}
 use mathlib.Core.Bool.{Bool, true}
 use mathlib.Core.List.{List}
 use mathlib.Core.Path.{_≡_}
 use lib.ListN.{length, take}
 use Rattle.hexfile.specs.Pairs.{paired, pairsOf, sumsToZero}
-use Rattle.hexfile.specs.Cells.{freshOf, giveOf}
 
 -- Whether the text is pairs of digits, and if it is, their bytes at the start of the room (Image files).
 pub record Decodes (text : List ℕ) (r : Bool) (room′ : List ℕ) : Type 0 where
@@ -16,8 +15,3 @@ pub record Decodes (text : List ℕ) (r : Bool) (room′ : List ℕ) : Type 0 wh
 pub record SumsUp (room : List ℕ) (count : ℕ) (r : Bool) (room′ : List ℕ) : Type 0 where
   pub said : r ≡ sumsToZero (take count room)
   pub bytes : take count room′ ≡ take count room
-
--- Whether the first cells were all not given, and the cells with the bytes given to them (Refusal numbers, 16).
-pub record GivesTo (cells bytes : List ℕ) (r : Bool) (cells′ : List ℕ) : Type 0 where
-  pub said : r ≡ freshOf cells bytes
-  pub given : cells′ ≡ giveOf cells bytes

@@ -1,5 +1,4 @@
 // Bytes as pairs of digits.
-use crate::digits;
 ghost use mathlib.Core.Path.{_≡_};
 ghost use Prim.Native.Nat.{_+_, _*_, _-_, _≤_};
 ghost use lib.ListN.{length, take, drop};

@@ -5,7 +5,7 @@ use mathlib.Core.Path.{_≡_}
 use lib.Dec.{eqb, leb}
 use borrow.Author.Tests.{eqb-true, leb-true}
 use Rattle.ground.proofs.Tests.{and-split}
-use Rattle.image.specs.Form.{largestSize, sized}
+use Rattle.image.specs.Promises.{largestSize, sized}
 
 -- An array that has the size named: its length is that, and no part has a larger one.
 pub size-of : (size n : ℕ) → sized size n ≡ true → (n ≡ size) × (size ≤ largestSize)

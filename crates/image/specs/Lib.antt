@@ -1,5 +1,1 @@
-pub mod Form
-pub mod Reading
-pub mod Writing
 pub mod Promises
-pub mod Parts

@@ -7,23 +7,25 @@ use lib.ListN.{length}
 use borrow.Author.Tests.{le-leb}
 use Rattle.ground.specs.Verdict.{accepted}
 use Rattle.ground.specs.Numbers.{smallSize}
-use Rattle.hexfile.specs.Digits.{digitOf, glyphOf}
-use Rattle.hexfile.specs.Lines.{trimmed}
-use Rattle.image.specs.Form.{sized, bytesOf, wellFormed, typed, inside}
-use Rattle.image.specs.Reading.{taken, bad, fresh, givenOf, recordSays, saysOf, readingOf}
-use Rattle.image.specs.Writing.{recordText, imageText}
-use Rattle.image.specs.Promises.{imageOf, writeVerdict}
-use Rattle.tidying.specs.Shown.{shownOf, refusalLine, decimalOf}
+use Rattle.digits.specs.Digits.{digitOf, glyphOf}
+use Rattle.lines.specs.Lines.{trimmed}
+use Rattle.intel.specs.Intel.{bytesOf, wellFormed, typed, recordLine, intel}
+use Rattle.forms.specs.Reading.{taken, bad, givenOf, saysOf, readingOf}
+use Rattle.forms.specs.Writing.{imageText, linesLength}
+use Rattle.image.specs.Promises.{sized, imageOf, writeVerdict}
+use Rattle.texts.specs.Numbers.{decimalOf}
+use Rattle.texts.specs.Refusal.{refusalLine}
+use Rattle.tidying.specs.Shown.{shownOf}
 use Rattle.image_cases.specs.ImageCases.{paperArray, paperText, P10, P11}
 
 -- The text that the paper shows, read for 4,096 bytes, gives the image.
-shown-read : readingOf smallSize paperText ≡ taken paperArray
-unfolding readingOf trimmed saysOf recordSays wellFormed typed inside fresh givenOf bytesOf digitOf
+shown-read : readingOf intel smallSize paperText ≡ taken paperArray
+unfolding readingOf trimmed saysOf wellFormed typed givenOf bytesOf digitOf
 shown-read = refl
 
 -- The image is written as that text.
-shown-written : imageText paperArray ≡ paperText
-unfolding imageText recordText glyphOf
+shown-written : imageText intel paperArray ≡ paperText
+unfolding imageText recordLine glyphOf
 shown-written = refl
 
 -- So the program writes it as it was.
@@ -32,13 +34,13 @@ unfolding shownOf
 shown-tidied = rw shown-read shown-written
 
 -- An array of 4,096 bytes lets the text decide.
-by-text : (text old : List ℕ) → length old ≡ smallSize → imageOf smallSize text old ≡ readingOf smallSize text
+by-text : (text old : List ℕ) → length old ≡ smallSize → imageOf intel smallSize text old ≡ readingOf intel smallSize text
 unfolding imageOf sized
 by-text text old h = rw h
 
 -- Writing the image is accepted with 56, given room for the longest.
-written-56 : (out : List ℕ) → 11276 ≤ length out → writeVerdict smallSize paperArray out ≡ accepted 56
-unfolding writeVerdict sized imageText recordText
+written-56 : (out : List ℕ) → 11276 ≤ length out → writeVerdict intel smallSize paperArray out ≡ accepted 56
+unfolding writeVerdict sized linesLength
 written-56 out h = rw (le-leb 11276 (length out) h)
 
 -- P10: the image above.
@@ -52,7 +54,7 @@ p10 =
           let v = written-56 out h in
           (w .reply ∙ v, w .said ∙ rw (v, shown-written));
       reads = λ old array′ r h w.
-          let v : imageOf smallSize paperText old ≡ taken paperArray = by-text paperText old h ∙ shown-read in
+          let v : imageOf intel smallSize paperText old ≡ taken paperArray = by-text paperText old h ∙ shown-read in
           (w .reply ∙ rw v, w .kept ∙ rw v);
     }
 
@@ -64,6 +66,6 @@ p11 =
       read = refl;
       tidied = refl;
       reads = λ old array′ r h w.
-          let v : imageOf smallSize [] old ≡ bad 17 0 = by-text [] old h in
+          let v : imageOf intel smallSize [] old ≡ bad 17 0 = by-text [] old h in
           (w .reply ∙ rw v, w .kept ∙ rw v);
     }

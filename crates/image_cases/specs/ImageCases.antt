@@ -8,8 +8,9 @@ use lib.ListN.{length, drop, replicate, set}
 use Rattle.ground.specs.Numbers.{smallSize}
 use Rattle.ground.specs.Verdict.{accepted, refused, meant}
 use Rattle.ground.specs.declared.Reply.{Reply}
-use Rattle.image.specs.Reading.{taken, bad, readingOf}
-use Rattle.image.specs.Writing.{imageText}
+use Rattle.forms.specs.Reading.{taken, bad, readingOf}
+use Rattle.forms.specs.Writing.{imageText}
+use Rattle.intel.specs.Intel.{intel}
 use Rattle.image.specs.Promises.{ReadsImage, WritesImage}
 use Rattle.tidying.specs.Shown.{shownOf}
 
@@ -28,18 +29,18 @@ paperText = codesOf ":100010004CFFFFFFFFFFFFFFFFFFFFFFFFFFFFFFA3\n:00000001FF\n"
 
 -- The image above is written as that text, that text gives it, and the program leaves the text as it is (Bench cases, P10).
 pub record P10 : Type 0 where
-  pub written : imageText paperArray ≡ paperText
-  pub read : readingOf smallSize paperText ≡ taken paperArray
+  pub written : imageText intel paperArray ≡ paperText
+  pub read : readingOf intel smallSize paperText ≡ taken paperArray
   pub tidied : shownOf smallSize paperText ≡ paperText
   -- the same of the operations: 56 is the text's length
-  pub writes : (out out′ : List ℕ) (r : Reply) → 11276 ≤ length out → WritesImage smallSize paperArray out r out′
+  pub writes : (out out′ : List ℕ) (r : Reply) → 11276 ≤ length out → WritesImage intel smallSize paperArray out r out′
       → (meant r ≡ accepted 56) × (out′ ≡ paperText ++ drop 56 out)
-  pub reads : (old array′ : List ℕ) (r : Reply) → length old ≡ smallSize → ReadsImage smallSize paperText old r array′
+  pub reads : (old array′ : List ℕ) (r : Reply) → length old ≡ smallSize → ReadsImage intel smallSize paperText old r array′
       → (meant r ≡ accepted 56) × (array′ ≡ paperArray)
 
 -- An empty text is 17 at 0, the array stays, and that is the line that the program writes (Bench cases, P11).
 pub record P11 : Type 0 where
-  pub read : readingOf smallSize [] ≡ bad 17 0
+  pub read : readingOf intel smallSize [] ≡ bad 17 0
   pub tidied : shownOf smallSize [] ≡ codesOf "17 0\n"
-  pub reads : (old array′ : List ℕ) (r : Reply) → length old ≡ smallSize → ReadsImage smallSize [] old r array′
+  pub reads : (old array′ : List ℕ) (r : Reply) → length old ≡ smallSize → ReadsImage intel smallSize [] old r array′
       → (meant r ≡ refused 17 0) × (array′ ≡ old)

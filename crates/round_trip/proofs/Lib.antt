@@ -1,4 +1,8 @@
-pub mod Images
-pub mod Operations
+pub mod Tests
+pub mod Texts
+pub mod Cells
+pub mod Heeded
+pub mod Written
+pub mod RowsBack
+pub mod WrittenBack
 pub mod RoundTrip
-pub mod Tidied

@@ -1,7 +1,7 @@
 // Reads one case in the form of docs/BENCH.md on standard input and prints it transfer by transfer,
 // with the bytes of the array that changed; or one line with its refusal.
 mod changes;
-mod texts;
+mod printing;
 
 use form::fields;
 use form::headers;
@@ -10,6 +10,7 @@ use form::words;
 use part::state::State;
 use reading::rooms;
 use refusals::verdicts;
+use texts::cases::Lengths;
 use twin::Reply;
 ghost use Prim.Native.Nat.{_≤_};
 ghost use lib.ListN.{length};
@@ -27,7 +28,7 @@ fn show_once(
 {
     bytes::copy(array, before);
     let listed = transfers::list(state, elapsed, levels, array, entries);
-    texts::put_list(entries, listed.count);
+    printing::put_list(entries, listed.count);
     changes::put_changes(before, array);
     listed.state
 }
@@ -44,12 +45,12 @@ fn show_times(
 )
     requires { ⌜ length (now array) ≤ length (now before) ⌝ }
 {
-    texts::put_heading(1, times);
+    printing::put_heading(1, times);
     let mut now = show_once(state, elapsed, levels, array, before, entries);
     let mut done = 1;
     while done < times {
         done += 1;
-        texts::put_heading(done, times);
+        printing::put_heading(done, times);
         now = show_once(now, elapsed, levels, array, before, entries);
     }
 }
@@ -73,13 +74,13 @@ fn show_case(
     let up = twin::power_up(part, select, stored);
     let powered = up.reply;
     let Reply::Accepted(_) = powered else {
-        texts::put_refusal(powered);
+        printing::put_refusal(powered);
         return;
     };
     let state = fields::put_in(header.preset, up.state);
     let reply = verdicts::judge(state, elapsed, levels, array, answers);
     let Reply::Accepted(_) = reply else {
-        texts::put_refusal(reply);
+        printing::put_refusal(reply);
         return;
     };
     show_times(header.times, state, elapsed, levels, array, before, entries);
@@ -122,34 +123,36 @@ fn lend(
     let levels_length = header.levels as usize;
     let answers_length = header.answers as usize;
     let raw_length = elapsed_length * words::WORD;
-    if array_length > array.len() {
-        return false;
-    }
+    let case = Lengths {
+        array: array_length,
+        raw: raw_length,
+        elapsed: elapsed_length,
+        levels: levels_length,
+        answers: answers_length,
+    };
+    let room = Lengths {
+        array: array.len(),
+        raw: raw.len(),
+        elapsed: elapsed.len(),
+        levels: levels.len(),
+        answers: answers.len(),
+    };
     if array_length > before.len() {
         return false;
     }
-    if raw_length > raw.len() {
-        return false;
+    if texts::cases::fits(case, room) {
+        return show_rows(
+            header,
+            &mut array[..array_length],
+            before,
+            &mut raw[..raw_length],
+            &mut elapsed[..elapsed_length],
+            &mut levels[..levels_length],
+            &answers[..answers_length],
+            entries,
+        );
     }
-    if elapsed_length > elapsed.len() {
-        return false;
-    }
-    if levels_length > levels.len() {
-        return false;
-    }
-    if answers_length > answers.len() {
-        return false;
-    }
-    show_rows(
-        header,
-        &mut array[..array_length],
-        before,
-        &mut raw[..raw_length],
-        &mut elapsed[..elapsed_length],
-        &mut levels[..levels_length],
-        &answers[..answers_length],
-        entries,
-    )
+    false
 }
 
 fn main() {
@@ -178,5 +181,5 @@ fn main() {
             return;
         }
     }
-    texts::put(b"no whole case: it is cut off, or longer than docs/BENCH.md allows\n");
+    printing::put(b"no whole case: it is cut off, or longer than docs/BENCH.md allows\n");
 }

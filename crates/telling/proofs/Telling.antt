@@ -8,6 +8,7 @@ use borrow.Author.Tests.{eq-eqb, ne-eqb}
 use Rattle.ground.specs.Verdict.{meant}
 use Rattle.ground.specs.declared.Reply.{Reply}
 use Rattle.ground.specs.declared.Reply.the-variants.{Accepted, Refused}
+use Rattle.intel.specs.Intel.{intel}
 use Rattle.image.specs.Promises.{ReadsImage, WritesImage}
 use Rattle.telling.specs.Told.{told, ReadsThrough, WritesThrough}
 
@@ -42,13 +43,13 @@ module _ (size : ℕ) (numbers : List ℕ) (h : length numbers ≡ 2 → ⊥) wh
 
 -- A reply row of two numbers: the operation is done, and its reply told.
 module _ (size : ℕ) (numbers numbers′ : List ℕ) (r : Reply) (h : length numbers ≡ 2) (t : numbers′ ≡ told (meant r)) where
-  pub reads-told : (text array array′ : List ℕ) → ReadsImage size text array r array′
+  pub reads-told : (text array array′ : List ℕ) → ReadsImage intel size text array r array′
       → ReadsThrough size text array numbers 1 array′ numbers′
   reads-told text array array′ x =
       let e = eq-eqb (length numbers) 2 h in
       record { answer = rw e; reply = t ∙ ap told (x .reply) ∙ rw e; kept = x .kept ∙ rw e }
 
-  pub writes-told : (array out out′ : List ℕ) → WritesImage size array out r out′
+  pub writes-told : (array out out′ : List ℕ) → WritesImage intel size array out r out′
       → WritesThrough size array out numbers 1 out′ numbers′
   writes-told array out out′ x =
       let e = eq-eqb (length numbers) 2 h in

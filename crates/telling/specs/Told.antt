@@ -7,7 +7,9 @@ use mathlib.Core.Path.{_≡_}
 use lib.Dec.{eqb}
 use lib.ListN.{length}
 use Rattle.ground.specs.Verdict.{Verdict, accepted, refused}
-use Rattle.image.specs.Promises.{imageOf, verdictOf, arrayAfter, writeVerdict, outAfter}
+use Rattle.intel.specs.Intel.{intel}
+use Rattle.reader.specs.Answers.{verdictOf, arrayAfter}
+use Rattle.image.specs.Promises.{imageOf, writeVerdict, outAfter}
 
 -- A verdict in two numbers: 0 and the count, or the refusal's number and place (What goes in and what comes out).
 abbrev pub told : Verdict → List ℕ
@@ -31,11 +33,11 @@ leftBy false after before = before
 -- Reading an image: the array that the text gives; refused, as it was (Refusal numbers, 5, 11 to 18; Image files).
 pub record ReadsThrough (size : ℕ) (text array numbers : List ℕ) (r : ℕ) (array′ numbers′ : List ℕ) : Type 0 where
   pub answer : r ≡ answerBy (fits numbers)
-  pub reply : numbers′ ≡ leftBy (fits numbers) (told (verdictOf (imageOf size text array) (length text))) numbers
-  pub kept : array′ ≡ leftBy (fits numbers) (arrayAfter (imageOf size text array) array) array
+  pub reply : numbers′ ≡ leftBy (fits numbers) (told (verdictOf (imageOf intel size text array) (length text))) numbers
+  pub kept : array′ ≡ leftBy (fits numbers) (arrayAfter (imageOf intel size text array) array) array
 
 -- Writing an image: the buffer with the fixed form at its start; refused, as it was (Refusal numbers, 5, 19; Image files).
 pub record WritesThrough (size : ℕ) (array out numbers : List ℕ) (r : ℕ) (out′ numbers′ : List ℕ) : Type 0 where
   pub answer : r ≡ answerBy (fits numbers)
-  pub reply : numbers′ ≡ leftBy (fits numbers) (told (writeVerdict size array out)) numbers
-  pub said : out′ ≡ leftBy (fits numbers) (outAfter (writeVerdict size array out) array out) out
+  pub reply : numbers′ ≡ leftBy (fits numbers) (told (writeVerdict intel size array out)) numbers
+  pub said : out′ ≡ leftBy (fits numbers) (outAfter intel (writeVerdict intel size array out) array out) out

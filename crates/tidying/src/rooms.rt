@@ -9,9 +9,9 @@ pub fn text_room() -> [u8; 65537]
     [0; 65537]
 }
 
-// The longest fixed form.
-pub fn out_room() -> [u8; 11276]
+// The longest fixed form of the largest array.
+pub fn out_room() -> [u8; image::LONGEST]
     ensures { λ r. ⌜ 11276 ≡ length r ⌝ }
 {
-    [0; 11276]
+    [0; image::LONGEST]
 }

@@ -1,6 +1,8 @@
 -- `tidying::put_image` meets its contract.
 use Rattle.tidying.proofs.Starting.{image-refused, image-starts}
+use native.Mathlib.Omega.{arith}
 use borrow.Author.Needs.{needs}
+use Rattle.forms.specs.Writing.{linesLength}
 use Rattle.tidying.proofs.put_image.Statement.{statement}
 use Rattle.tidying.proofs.put_image.Tie as tie
 
@@ -14,7 +16,8 @@ enum-known-reply-2 : tie.Need-enum-known-reply-2
 enum-known-reply-2 c = search needs
 
 put-refusal-requires : tie.Need-put-refusal-requires
-put-refusal-requires c κs = search needs
+unfolding linesLength
+put-refusal-requires c κs = omega (arith, c .before .before .before .before .before .before .before .before .before .before .pre .1)
 
 same-length : tie.Need-same-length
 same-length c = search needs

@@ -1,6 +1,8 @@
 -- `tidying::put_text` meets its contract.
 use Rattle.tidying.proofs.Starting.{read-sized, shows-refusal, shows-image}
+use native.Mathlib.Omega.{arith}
 use borrow.Author.Needs.{needs}
+use Rattle.forms.specs.Writing.{linesLength}
 use Rattle.tidying.proofs.put_text.Statement.{statement}
 use Rattle.tidying.proofs.put_text.Tie as tie
 
@@ -19,7 +21,8 @@ enum-known-reply : tie.Need-enum-known-reply
 enum-known-reply c = search needs
 
 put-refusal-requires : tie.Need-put-refusal-requires
-put-refusal-requires c κs = search needs
+unfolding linesLength
+put-refusal-requires c κs = omega (arith, c .before .before .before .before .before .before .before .before .before .before .before .pre .1)
 
 same-length : tie.Need-same-length
 same-length c = search needs

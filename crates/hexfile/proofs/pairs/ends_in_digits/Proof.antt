@@ -3,7 +3,8 @@ use Prim.Native.Nat.{_-_}
 use borrow.Author.Needs.{needs}
 use lib.Seq.{length-take-le}
 use mathlib.Core.Path.{sym}
-use Rattle.hexfile.proofs.WindowLaws.{tail-whole, ends-some, ends-few}
+use Rattle.lines.proofs.PartLaws.{tail-whole}
+use Rattle.hexfile.proofs.WindowLaws.{ends-some, ends-few}
 use Rattle.hexfile.proofs.pairs.ends_in_digits.Statement.{statement}
 use Rattle.hexfile.proofs.pairs.ends_in_digits.Tie as tie
 

@@ -7,7 +7,8 @@ use native.Mathlib.Numerals.{add-one}
 use borrow.Author.Needs.{needs}
 use lib.ListN.{length, take, drop, length-set}
 use Rattle.hexfile.specs.Parts.{valuesOf}
-use Rattle.hexfile.proofs.WindowLaws.{value-small, join-turn, join-done}
+use Rattle.digits.proofs.DigitLaws.{value-small}
+use Rattle.hexfile.proofs.WindowLaws.{join-turn, join-done}
 use Rattle.hexfile.proofs.pairs.join.Statement.{statement}
 use Rattle.hexfile.proofs.pairs.join.Tie as tie
 

@@ -1,0 +1,23 @@
+-- `digits::glyph` meets its contract: each branch is one row of the table.
+use borrow.Author.Needs.{needs}
+use borrow.Author.Tests.{lt-ltb, le-ltb}
+use Rattle.digits.specs.Digits.{glyphOf}
+use Rattle.digits.proofs.glyph.Statement.{statement}
+use Rattle.digits.proofs.glyph.Tie as tie
+
+add-result : tie.Need-add-result
+add-result c = search needs
+
+returns : tie.Need-returns
+unfolding glyphOf
+returns c = rw (lt-ltb _ _ (c .if1 .taken))
+
+add-result-2 : tie.Need-add-result-2
+add-result-2 c = search needs
+
+returns-2 : tie.Need-returns-2
+unfolding glyphOf
+returns-2 c = rw (le-ltb _ _ (c .if1 .left))
+
+pub glyph-spec : {M : Type 1} → statement M
+glyph-spec = tie.close (tie.spec add-result returns add-result-2 returns-2)

@@ -1,0 +1,2 @@
+pub mod Intel
+pub mod Parts

@@ -1,0 +1,84 @@
+-- An image that was written reads back: where writing accepts an array of bytes, reading accepts what was written,
+-- answers the same length, and leaves the same array, whatever stood there before. It rests on the two operations'
+-- promises alone. Assumes nothing.
+use Prim.Native.Nat.{ℕ, _*_, _≤_}
+use mathlib.Core.Bool.{Bool, true, false, true≢false}
+use mathlib.Core.List.{List, _++_}
+use mathlib.Core.Path.{_≡_, refl, ap, sym, _∙_}
+use native.Mathlib.Omega.{arith}
+use lib.Dec.{leb}
+use lib.ListN.{length, take, drop}
+use lib.Seq.{take-at}
+use borrow.Author.Tests.{eq-eqb, le-leb}
+use Rattle.ground.specs.Verdict.{accepted, meant}
+use Rattle.ground.specs.declared.Reply.{Reply}
+use Rattle.forms.specs.Form.{rowSize}
+use Rattle.forms.specs.Reading.{taken}
+use Rattle.forms.specs.Writing.{imageText, lengthOf, mostLength}
+use Rattle.forms.proofs.Lengths.{length-image}
+use Rattle.intel.specs.Intel.{intel}
+use Rattle.formats.proofs.Named.{intel-measured}
+use Rattle.image.specs.Promises.{largestSize, sized, imageOf, ReadsImage, writeBy, writeVerdict, WritesImage}
+use Rattle.image.proofs.Sizes.{size-of}
+use Rattle.round_trip.specs.Words.{allBytes, Rows}
+use Rattle.intel_trip.specs.Trip.{ReadBack}
+use Rattle.intel_trip.proofs.ImageTrip.{image-round-trip}
+
+-- A write is accepted only if its size is right, and then says its length.
+record Said (size : Bool) (long n : ℕ) : Type 0 where
+  right : size ≡ true
+  length : long ≡ n
+
+-- So says the table.
+write-says : (size room : Bool) (long n : ℕ) → writeBy size room long ≡ accepted n → Said size long n
+write-says true true long n e = record { right = refl; length = cc }
+write-says true false long n e = absurd (true≢false (cc))
+write-says false room long n e = absurd (true≢false (cc))
+
+-- So says the writer's verdict.
+written-says : (size : ℕ) (array out : List ℕ) (n : ℕ) → writeVerdict intel size array out ≡ accepted n
+    → Said (sized size (length array)) (lengthOf intel array) n
+unfolding writeVerdict
+written-says size array out n e =
+    write-says (sized size (length array)) (leb (mostLength intel size) (length out)) (lengthOf intel array) n e
+
+module _ (size : ℕ) (array out out′ : List ℕ) (r : Reply) (n : ℕ)
+    (w : WritesImage intel size array out r out′) (e : meant r ≡ accepted n) where
+  -- The verdict of the writer is that acceptance.
+  said : writeVerdict intel size array out ≡ accepted n
+  said = sym (w .reply) ∙ e
+
+  -- An accepted array has the size named, and a part can have it.
+  pub written-size : (length array ≡ size) × (size ≤ largestSize)
+  written-size = size-of size (length array) (written-says size array out n said .right)
+
+  -- The answer is the length of its fixed form.
+  pub written-length : length (imageText intel array) ≡ n
+  written-length = length-image intel intel-measured array ∙ written-says size array out n said .length
+
+  -- The fixed form stands at the start of the buffer.
+  pub written-text : take n out′ ≡ imageText intel array
+  written-text =
+      let s : out′ ≡ imageText intel array ++ drop n out = w .said ∙ (rw said) in
+      rw s (take-at (imageText intel array) (drop n out) n written-length)
+
+-- The fixed form of an array of whole rows gives it, whatever is there before.
+pub image-gives : (k : ℕ) (array old : List ℕ) → length array ≡ k * rowSize → k * rowSize ≤ largestSize → allBytes array ≡ true
+    → length old ≡ k * rowSize → imageOf intel (k * rowSize) (imageText intel array) old ≡ taken array
+unfolding imageOf sized
+image-gives k array old s h b o =
+    let r : Rows k array = record { size = s; bytes = b } in
+    rw (eq-eqb (length old) (k * rowSize) o, le-leb (k * rowSize) largestSize h) (image-round-trip k h .reads-back array r)
+
+-- Written and read back, for arrays of any number of rows: bytes that a write accepted are what a read of the text leaves.
+pub write-then-read : (k : ℕ) (array out out′ old array′ : List ℕ) (r r₂ : Reply) (n : ℕ) → allBytes array ≡ true
+    → WritesImage intel (k * rowSize) array out r out′ → meant r ≡ accepted n
+    → length old ≡ k * rowSize → ReadsImage intel (k * rowSize) (take n out′) old r₂ array′
+    → ReadBack array array′ r₂ n
+write-then-read k array out out′ old array′ r r₂ n b w e o q =
+    let size : ℕ = k * rowSize in
+    let t : take n out′ ≡ imageText intel array = written-text size array out out′ r n w e in
+    let l : length (take n out′) ≡ n = ap length t ∙ written-length size array out out′ r n w e in
+    let s = written-size size array out out′ r n w e in
+    let g : imageOf intel size (take n out′) old ≡ taken array = rw t (image-gives k array old (s .0) (s .1) b o) in
+    record { same = q .kept ∙ (rw g); reply = q .reply ∙ (rw (g, l)) }

@@ -1,0 +1,4 @@
+pub mod Decimal
+pub mod Starting
+pub mod Alike
+pub mod Fitting

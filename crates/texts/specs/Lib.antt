@@ -1,0 +1,5 @@
+pub mod Numbers
+pub mod Refusal
+pub mod Laying
+pub mod Differences
+pub mod Cases
