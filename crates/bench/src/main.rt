@@ -1,5 +1,4 @@
 // Replays the cases on standard input and writes a reply for each to standard output.
-
 use form::headers;
 use form::headers::Header;
 use form::words;
