@@ -5,7 +5,7 @@ use mathlib.Core.Path.{_≡_, refl, sym, _∙_}
 use native.Mathlib.Omega.{arith}
 use native.Mathlib.Numerals.{add-one}
 use lib.ListN.{length, getD, take, drop, set, length-append, take-append-drop, drop-of-length-le}
-use lib.Seq.{drop-cons, take-suc-set, drop-set-lt, take-all, take-at, drop-at, sets, sets-eq, length-take-le}
+use lib.Seq.{drop-cons, take-suc-set, drop-set-lt, take-all, take-at, drop-at, sets-eq, length-take-le}
 use Rattle.form.specs.Words.{wordOf, decodedOf, encodedOf}
 
 -- Four bytes from an index on, and what follows them.

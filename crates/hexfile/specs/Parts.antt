@@ -1,6 +1,6 @@
 -- What the inner functions promise each other.
 use Prim.Native.Nat.{ℕ, _+_, _*_}
-use mathlib.Core.Bool.{Bool, true, false, _&&_}
+use mathlib.Core.Bool.{Bool, true, _&&_}
 use mathlib.Core.List.{List, [], _∷_}
 use Rattle.digits.specs.Digits.{base, isDigit}
 use Rattle.digits.specs.Values.{valueOf}

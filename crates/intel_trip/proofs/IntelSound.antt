@@ -1,13 +1,12 @@
 -- Intel's form of record keeps the laws of the round trip. No axiom is used.
 use Prim.Native.Nat.{ℕ}
-use mathlib.Core.Bool.{Bool, true, false, _&&_, true≢false}
+use mathlib.Core.Bool.{Bool, true, false, true≢false}
 use mathlib.Core.List.{List, []}
 use mathlib.Core.Path.{_≡_, refl, ap, _∙_}
 use native.Mathlib.Omega.{arith}
 use lib.Dec.{eqb}
 use borrow.Author.Tests.{eqb-true}
 use Rattle.ground.proofs.Tests.{and-split}
-use Rattle.forms.specs.Form.{rowSize}
 use Rattle.intel.specs.Intel.{dataType, endType, bytesOf, countOf, addressOf, typeOf, dataOf, typeBy, typed, recordLine, intel}
 use Rattle.formats.proofs.Named.{intel-measured}
 use Rattle.round_trip.specs.Sound.{Sound}

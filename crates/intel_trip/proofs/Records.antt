@@ -1,8 +1,8 @@
 -- What the reader says of a record that the writer made: it is one line, well formed and with a sound checksum, and its
 -- count, address, type and data are the record's. Assumes nothing.
-use Prim.Native.Nat.{ℕ, suc, _+_, _*_, _/_, _%_, _<_, _≤_}
-use mathlib.Core.Bool.{Bool, true, false}
-use mathlib.Core.List.{List, [], _∷_, _++_}
+use Prim.Native.Nat.{ℕ, suc, _+_, _*_, _/_, _%_, _<_}
+use mathlib.Core.Bool.{true}
+use mathlib.Core.List.{List, [], _∷_}
 use mathlib.Core.Path.{_≡_, refl, ap, sym, _∙_}
 use native.Mathlib.Omega.{arith}
 use lib.Dec.{eqb}
@@ -12,11 +12,10 @@ use borrow.Author.Tests.{lt-ltb, eq-eqb}
 use Rattle.ground.specs.Numbers.{byteValues}
 use Rattle.hexfile.specs.Pairs.{textOf, sumsToZero, checkOf}
 use Rattle.hexfile.proofs.PairLaws.{length-textOf}
-use Rattle.forms.specs.Form.{rowSize}
 use Rattle.intel.specs.Intel.{colon, dataType, endType, charactersIn, bytesOf, countOf, addressOf, typeOf, dataOf}
 use Rattle.intel.specs.Intel.{wellFormed, typed, fieldsOf, recordLine, intel}
 use Rattle.round_trip.specs.Words.{allBytes}
-use Rattle.round_trip.specs.Sound.{Judged, Written, SaysRow, SaysEnd}
+use Rattle.round_trip.specs.Sound.{Written, SaysRow, SaysEnd}
 use Rattle.round_trip.proofs.Tests.{bytes-append}
 use Rattle.intel_trip.proofs.Spelling.{pairs-text, paired-text, text-feeds, text-returns, checked, check-sound}
 

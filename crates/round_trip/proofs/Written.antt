@@ -1,10 +1,10 @@
 -- An image that is written reads back: an array of whole 16-byte rows, written in the fixed form of a sound form of record, is accepted
 -- and gives the same array. The text is as long as the writer says, never longer than the room that it asks for, and it
 -- is in the fixed form. Assumes nothing.
-use Prim.Native.Nat.{ℕ, zero, suc, _+_, _*_, _%_, _/_, _<_, _≤_}
+use Prim.Native.Nat.{ℕ, zero, suc, _+_, _*_, _%_, _<_, _≤_}
 use mathlib.Core.Bool.{Bool, true, false, _||_, true≢false}
 use mathlib.Core.List.{List, [], _∷_, _++_, append-assoc, append-nil}
-use mathlib.Core.Path.{_≡_, refl, ap, sym, _∙_}
+use mathlib.Core.Path.{_≡_, refl, sym, _∙_}
 use native.Mathlib.Omega.{arith}
 use native.Mathlib.Nat.{mul-comm, mul-le-mul-left}
 use lib.Dec.{eqb}

@@ -1,8 +1,7 @@
 -- A law of cases that fit their room. Assumes nothing.
-use Prim.Native.Nat.{ℕ, _≤_}
+use Prim.Native.Nat.{_≤_}
 use mathlib.Core.Bool.{Bool, true}
 use mathlib.Core.Path.{_≡_}
-use lib.Dec.{leb}
 use borrow.Author.Tests.{leb-true}
 use Rattle.ground.proofs.Tests.{and-split}
 use Rattle.texts.specs.Cases.{fitsOf}

@@ -1,8 +1,8 @@
 -- Laws of the rows that the writer lays over a buffer, in any form of record. Assumes nothing.
 use Prim.Native.Nat.{ℕ, _+_, _*_, _-_, _≤_, _<_}
 use mathlib.Core.Bool.{Bool, true, false}
-use mathlib.Core.List.{List, _++_}
-use mathlib.Core.Path.{_≡_, refl, ap, sym, _∙_}
+use mathlib.Core.List.{List}
+use mathlib.Core.Path.{_≡_, sym, _∙_}
 use native.Mathlib.Omega.{arith}
 use lib.ListN.{length, take, drop, length-drop}
 use lib.Seq.{sets, length-take-le, drop-drop}
@@ -10,7 +10,7 @@ use Rattle.ground.proofs.Rows.{sets-append}
 use Rattle.cells.specs.Cells.{blankOf}
 use Rattle.forms.specs.Form.{Form}
 use Rattle.forms.specs.Writing.{closed, rowBy, rowsText, imageText, rowsWritten, linesLength, lengthOf, Measured}
-use Rattle.forms.proofs.Lengths.{rows-turn, written-turn, length-row, lines-none}
+use Rattle.forms.proofs.Lengths.{rows-turn, written-turn, length-row}
 use Rattle.writer.specs.Parts.{PutsRow, PutsRows}
 
 -- A row that is left out, and one whose line is laid.

@@ -1,5 +1,4 @@
 -- `hexfile::pairs::ends_in_digits` meets its contract: the parts that are tested cover the last characters.
-use Prim.Native.Nat.{_-_}
 use borrow.Author.Needs.{needs}
 use lib.Seq.{length-take-le}
 use mathlib.Core.Path.{sym}

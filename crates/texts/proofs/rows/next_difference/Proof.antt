@@ -2,7 +2,6 @@
 use Prim.Native.Nat.{_+_, _-_}
 use mathlib.Core.Path.{_≡_, refl, _∙_}
 use native.Mathlib.Omega.{arith}
-use borrow.Author.Needs.{needs}
 use lib.ListN.{length, drop}
 use Rattle.texts.specs.Differences.{alikeFor}
 use Rattle.texts.proofs.Alike.{first-ends, second-ends, differ-here, alike-here}
