@@ -1,10 +1,8 @@
 pub mod Going
-pub mod Empty
-pub mod Records
 pub mod Seeing
-pub mod Ways
+pub mod Timing
 pub mod Turning
 pub mod Standing
-pub mod Acting
-pub mod Turned
+pub mod Clocking
+pub mod Arms
 pub mod Darkness

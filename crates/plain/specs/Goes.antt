@@ -3,10 +3,10 @@ use Prim.Native.Nat.{ℕ, _≤_}
 use mathlib.Core.List.{List, _++_}
 use mathlib.Core.Path.{_≡_}
 use lib.ListN.{length, drop, take}
+use Rattle.part.specs.State.{withTimers, withWire, withDevice, withLoad}
 use Rattle.part.specs.declared.state.Timers.{Timers}
 use Rattle.part.specs.declared.state.Wire.{Wire}
-use Rattle.part.specs.declared.state.Talk.{Talk}
-use Rattle.part.specs.declared.state.Place.{Place}
+use Rattle.part.specs.declared.state.Device.{Device}
 use Rattle.part.specs.declared.state.Load.{Load}
 use Rattle.part.specs.declared.state.State.{State}
 use Rattle.sample.specs.Run.{Part, runOf, answersOf}
@@ -15,16 +15,9 @@ use Rattle.sample.specs.Run.{Part, runOf, answersOf}
 abbrev pub partOf : State → List ℕ → Part
 partOf s array = record { state = s; array = array }
 
--- The state with all that a plain sample can change; part, select and control register stay.
-abbrev pub movedOf : State → Timers → Wire → Talk → Place → Load → State
-movedOf s t w k p l =
-    record {
-      chip = s .chip;
-      timers = t;
-      wire = w;
-      device = record { talk = k; counter = p; control = s .device .control };
-      load = l;
-    }
+-- The state with all that the loops can change; part and select stay.
+abbrev pub movedOf : State → Timers → Wire → Device → Load → State
+movedOf s t w d l = withLoad (withDevice (withWire (withTimers s t) w) d) l
 
 -- From the sample `from` to the sample `to`: what is left to run gives what all from `from` on gives, and so with the answers.
 pub record Goes (es ls : List ℕ) (from : ℕ) (p : Part) (row : List ℕ) (to : ℕ) (q : Part) (row′ : List ℕ) : Type 0 where

@@ -1,3 +1,5 @@
 pub mod Goes
 pub mod Rooms
-pub mod Tests
+pub mod Clocks
+pub mod Stands
+pub mod Dark

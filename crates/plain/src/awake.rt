@@ -1,24 +1,82 @@
 // Samples with VCC good and reset inactive in which no timer ends.
-use crate::Went;
-use crate::moves;
+use crate::Stand;
+use crate::clocks;
+use crate::clocks::Clocks;
+use crate::clocks::Turn;
 use crate::rooms;
-use crate::tests;
+use crate::rooms::Times;
+use device::address;
+use device::bits;
+use device::bytes;
+use device::ends;
 use ground::kinds;
 use part::page;
-use part::state::Frame;
-use part::state::Lines;
+use part::state::Device;
+use part::state::Load;
 use part::state::PAGE;
 use part::state::Phase;
 use part::state::State;
 use part::state::Talk;
-use part::timers;
 use sample::answers;
 ghost use mathlib.Core.Path.{_≡_};
 ghost use Prim.Native.Nat.{_≤_};
 ghost use lib.ListN.{length};
-ghost use Rattle.plain.specs.Goes.{Goes, partOf, movedOf};
+ghost use Rattle.plain.specs.Goes.{Goes, partOf};
+ghost use Rattle.plain.specs.Clocks.{spokenOf, freeAt};
+ghost use Rattle.plain.specs.Stands.{stateAt};
 
-// Stops where VCC is low or a timer would end, and before a sample that is not plain.
+// The device with the talk that the clocks have come to.
+fn spoken(d: Device, now: Clocks) -> Device
+    ensures { λ r. ⌜ r ≡ spokenOf d now ⌝ }
+{
+    let talk = d.talk;
+    let phase = talk.phase;
+    let t = Talk {
+        phase,
+        high: now.high,
+        out: now.out,
+        own: now.own,
+    };
+    let mut next = d;
+    next.talk = t;
+    next
+}
+
+// The clocks with no bit held.
+fn free(scl: bool, sda: bool, bits: u8, shift: u8, talk: Talk, room: u32) -> Clocks
+    ensures { λ r. ⌜ r ≡ freeAt scl sda bits shift talk room ⌝ }
+{
+    Clocks {
+        room,
+        scl,
+        sda,
+        held: false,
+        bit: false,
+        bits,
+        shift,
+        high: talk.high,
+        out: talk.out,
+        own: talk.own,
+    }
+}
+
+fn stop_at(s: State, times: Times, d: Device, load: Load, now: Clocks, at: usize) -> Stand
+    ensures { λ r. ⌜ r ≡ record { state = stateAt s times d load now; at = at } ⌝ }
+{
+    let before = s.timers;
+    let after = rooms::timers_at(before.hold, times, now.room);
+    let wire = clocks::wire_of(now);
+    let device = spoken(d, now);
+    let mut next = s;
+    next.timers = after;
+    next.wire = wire;
+    next.device = device;
+    next.load = load;
+    Stand { state: next, at }
+}
+
+// Stops where VCC is low or a timer would end, and before a stop that has something to do. The inner loop
+// takes the clocks; here is what a byte needs twice and a transfer a few times.
 pub fn pass(
     s: State,
     elapsed: &[u32],
@@ -26,264 +84,99 @@ pub fn pass(
     array: &[u8],
     row: &mut [u8],
     from: usize,
-) -> Went
+) -> Stand
     requires { ⌜ length (now elapsed) ≡ length (now levels) ⌝ }
     requires { ⌜ length (now row) ≡ length (now levels) ⌝ }
     requires { ⌜ from ≤ length (now levels) ⌝ }
-    ensures { λ r. ⌜ Goes (now (elapsed .entry)) (now (levels .entry)) from (partOf s (now (array .entry))) (now (row .entry)) (r .at) (partOf (movedOf s (r .timers) (r .wire) (r .talk) (r .counter) (r .load)) (now (array .entry))) (now (row .exit)) ⌝ }
+    ensures { λ r. ⌜ Goes (now (elapsed .entry)) (now (levels .entry)) from (partOf s (now (array .entry))) (now (row .entry)) (r .at) (partOf (r .state) (now (array .entry))) (now (row .exit)) ⌝ }
 {
-    let times = s.timers;
-    let before = s.wire;
-    let device = s.device;
-    let talk = device.talk;
-    let counter = device.counter;
-    let control = device.control;
-    let watch = times.watchdog;
-    let lines = before.lines;
-    let frame = before.frame;
-    let filled = s.load;
-    if times.reset {
-        return Went {
-            timers: times,
-            wire: before,
-            talk,
-            counter,
-            load: filled,
-            at: from,
-        };
+    let before = s.timers;
+    if before.reset | before.low {
+        return Stand { state: s, at: from };
     }
-    if times.low {
-        return Went {
-            timers: times,
-            wire: before,
-            talk,
-            counter,
-            load: filled,
-            at: from,
-        };
-    }
-    let chip = s.chip;
-    let kind = kinds::kind_of(chip.part);
-    let dog = timers::loaded(control.stored);
-    let base = rooms::base_of(kind.high, false, times.write);
-    let mut calm = tests::is_calm(control, filled);
-    let mut write = times.write;
-    let mut running = watch.running;
-    let mut left = watch.left;
-    let mut all = rooms::room_of(write, running, left);
-    let mut room = all;
-    let mut scl = lines.scl;
-    let mut sda = lines.sda;
-    let mut held = frame.held;
-    let mut bit = frame.bit;
-    let mut bits = frame.bits;
-    let mut shift = frame.shift;
-    let mut phase = talk.phase;
-    let mut high = talk.high;
-    let mut out = talk.out;
-    let mut own = talk.own;
-    let mut place = counter;
-    let mut load = filled;
+    let kind = kinds::kind_of(s.chip.part);
+    let select = s.chip.select;
+    let base = rooms::base_of(kind.high, false, before.write);
+    let mut times = rooms::times_of(before.write, before.watchdog);
+    let mut device = s.device;
+    let mut now = clocks::clocks_of(s.wire, device.talk, times.all);
+    let mut load = s.load;
+    let mut empty = false;
     let mut i = from;
     while i < levels.len() {
         let e = elapsed[i];
         let level = levels[i];
-        if answers::vcc(level) {
-            if e < room {
-                let rest = room - e;
-                let clock = answers::scl(level);
-                let data = answers::line(level, own);
-                if scl {
-                    if clock {
-                        if moves::same(sda, data) {
-                            room = rest;
-                            row[i] = rooms::said(own, base);
-                            i += 1;
-                            continue;
-                        }
-                        if calm {
-                            room = rest;
-                            row[i] = rooms::said(true, base);
-                            held = false;
-                            bit = false;
-                            bits = 0;
-                            shift = 0;
-                            high = 0;
-                            out = 0;
-                            own = true;
-                            i += 1;
-                            if data {
-                                sda = true;
-                                phase = Phase::Idle;
-                                continue;
-                            }
-                            sda = false;
-                            write = timers::less(write, all - room);
-                            running = dog.running;
-                            left = dog.left;
-                            phase = moves::start_phase(write);
-                            all = rooms::room_of(write, running, left);
-                            room = all;
-                            continue;
-                        }
-                        break;
-                    }
-                    if held {
-                        let way = tests::way_of(phase);
-                        if bits < 7 {
-                            shift = wire::push(shift, bit);
-                            held = false;
-                            bit = false;
-                            bits = bits + 1;
-                            scl = false;
-                            sda = data;
-                            room = rest;
-                            if way < 3 {
-                                row[i] = rooms::said(own, base);
-                                i += 1;
-                                continue;
-                            }
-                            high = 0;
-                            out = moves::shifted(out);
-                            own = moves::top(out);
-                            row[i] = rooms::said(own, base);
-                            i += 1;
-                            continue;
-                        }
-                        if bits == 7 {
-                            let v = wire::push(shift, bit);
-                            if way == 0 {
-                                shift = v;
-                                held = false;
-                                bit = false;
-                                bits = 8;
-                                scl = false;
-                                sda = data;
-                                room = rest;
-                                row[i] = rooms::said(own, base);
-                                i += 1;
-                                continue;
-                            }
-                            if way == 3 {
-                                shift = v;
-                                held = false;
-                                bit = false;
-                                bits = 8;
-                                scl = false;
-                                sda = data;
-                                room = rest;
-                                high = 0;
-                                out = 0;
-                                own = true;
-                                row[i] = rooms::said(own, base);
-                                i += 1;
-                                continue;
-                            }
-                            if way == 2 {
-                                if moves::takes(kind, control, place) {
-                                    let index = (place.0 % PAGE) as usize;
-                                    load.bytes[index] = v;
-                                    load.marks[index] = true;
-                                    calm = false;
-                                    place = page::next_in_page(place);
-                                    shift = v;
-                                    held = false;
-                                    bit = false;
-                                    bits = 8;
-                                    scl = false;
-                                    sda = data;
-                                    room = rest;
-                                    high = 0;
-                                    out = 0;
-                                    own = false;
-                                    row[i] = rooms::said(own, base);
-                                    i += 1;
-                                    continue;
-                                }
-                                break;
-                            }
-                            break;
-                        }
-                        if way == 4 {
-                            break;
-                        }
-                        let ninth = bit;
-                        shift = 0;
-                        held = false;
-                        bit = false;
-                        bits = 0;
-                        scl = false;
-                        sda = data;
-                        room = rest;
-                        if way == 0 {
-                            row[i] = rooms::said(own, base);
-                            i += 1;
-                            continue;
-                        }
-                        if way < 3 {
-                            own = true;
-                            row[i] = rooms::said(own, base);
-                            i += 1;
-                            continue;
-                        }
-                        high = 0;
-                        if ninth {
-                            phase = Phase::Silent;
-                            out = 0;
-                            own = true;
-                            row[i] = rooms::said(own, base);
-                            i += 1;
-                            continue;
-                        }
-                        out = page::fetched(array, place);
-                        own = moves::top(out);
-                        place = page::next_in_array(kind, place);
-                        row[i] = rooms::said(own, base);
-                        i += 1;
-                        continue;
-                    }
-                    scl = false;
-                    sda = data;
-                    room = rest;
-                    row[i] = rooms::said(own, base);
-                    i += 1;
-                    continue;
-                }
-                held = clock | held;
-                bit = moves::pick(clock, data, bit);
-                scl = clock;
-                sda = data;
-                room = rest;
-                row[i] = rooms::said(own, base);
-                i += 1;
-                continue;
+        let turn = clocks::turn_of(now, e, level);
+        match turn {
+            Turn::Plain => {
+                let talk = device.talk;
+                let phase = talk.phase;
+                let sends = bits::sends(phase);
+                let ran = clocks::pass(now, sends, base, elapsed, levels, row, i);
+                now = ran.now;
+                i = ran.at;
             }
-            break;
+            Turn::Eighth => {
+                let d = spoken(device, now);
+                let v = wire::push(now.shift, now.bit);
+                if bytes::fills(kind, d) {
+                    let place = d.counter;
+                    let index = (place.0 % PAGE) as usize;
+                    load.bytes[index] = v;
+                    load.marks[index] = true;
+                    empty = false;
+                }
+                device = bytes::byte(kind, select, d, v);
+                now = free(
+                    false,
+                    answers::line(level, now.own),
+                    8,
+                    v,
+                    device.talk,
+                    now.room - e,
+                );
+                row[i] = rooms::said(now.own, base);
+                i += 1;
+            }
+            Turn::Ninth => {
+                device = bits::ninth(kind, array, now.bit, spoken(device, now));
+                now = free(
+                    false,
+                    answers::line(level, now.own),
+                    0,
+                    0,
+                    device.talk,
+                    now.room - e,
+                );
+                row[i] = rooms::said(now.own, base);
+                i += 1;
+            }
+            Turn::Start => {
+                if !empty {
+                    load = page::empty();
+                    empty = true;
+                }
+                let control = device.control;
+                times = rooms::started(times, now.room - e, control.stored);
+                device = ends::start(0 < times.write, device);
+                now = free(true, false, 0, 0, address::rest(Phase::Idle), times.all);
+                row[i] = rooms::said(true, base);
+                i += 1;
+            }
+            Turn::Stop => {
+                let control = device.control;
+                if control.pending | !empty {
+                    break;
+                }
+                device = ends::end(device);
+                now = free(true, true, 0, 0, address::rest(Phase::Idle), now.room - e);
+                row[i] = rooms::said(true, base);
+                i += 1;
+            }
+            Turn::Other => {
+                break;
+            }
         }
-        break;
     }
-    moves::stop_at(
-        s,
-        write,
-        running,
-        left,
-        all,
-        room,
-        Lines { scl, sda },
-        Frame {
-            held,
-            bit,
-            bits,
-            shift,
-        },
-        Talk {
-            phase,
-            high,
-            out,
-            own,
-        },
-        place,
-        load,
-        i,
-    )
+    stop_at(s, times, device, load, now, i)
 }

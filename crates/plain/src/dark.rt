@@ -1,36 +1,50 @@
 // Samples with VCC low, reset going on.
-use crate::Went;
+use crate::Stand;
 use crate::rooms;
 use ground::kinds;
 use part::state::Lines;
 use part::state::State;
 use part::timers;
 use sample::answers;
+use sample::steps;
 ghost use mathlib.Core.Path.{_≡_};
 ghost use Prim.Native.Nat.{_≤_};
 ghost use lib.ListN.{length};
-ghost use Rattle.plain.specs.Goes.{Goes, partOf, movedOf};
-ghost use Rattle.plain.specs.Tests.{Dark};
+ghost use Rattle.plain.specs.Goes.{Goes, partOf};
+ghost use Rattle.plain.specs.Dark.{Dark, darkAt};
 
-// Stops at the first sample with VCC good.
-pub fn pass(
+fn stop_at(s: State, write: u32, lines: Lines, at: usize) -> Stand
+    ensures { λ r. ⌜ r ≡ record { state = darkAt s write lines; at = at } ⌝ }
+{
+    let mut times = s.timers;
+    let mut wire = s.wire;
+    times.write = write;
+    wire.lines = lines;
+    let mut next = s;
+    next.timers = times;
+    next.wire = wire;
+    Stand { state: next, at }
+}
+
+// After a first one with VCC low each changes no more than the write time and the lines. Stops at the
+// first sample with VCC good.
+fn go_on(
     s: State,
     elapsed: &[u32],
     levels: &[u8],
     array: &[u8],
     row: &mut [u8],
     from: usize,
-) -> Went
+) -> Stand
     requires { ⌜ length (now elapsed) ≡ length (now levels) ⌝ }
     requires { ⌜ length (now row) ≡ length (now levels) ⌝ }
     requires { ⌜ from ≤ length (now levels) ⌝ }
     requires { ⌜ Dark s ⌝ }
-    ensures { λ r. ⌜ Goes (now (elapsed .entry)) (now (levels .entry)) from (partOf s (now (array .entry))) (now (row .entry)) (r .at) (partOf (movedOf s (r .timers) (r .wire) (r .talk) (r .counter) (r .load)) (now (array .entry))) (now (row .exit)) ⌝ }
+    ensures { λ r. ⌜ Goes (now (elapsed .entry)) (now (levels .entry)) from (partOf s (now (array .entry))) (now (row .entry)) (r .at) (partOf (r .state) (now (array .entry))) (now (row .exit)) ⌝ }
 {
     let times = s.timers;
     let before = s.wire;
-    let chip = s.chip;
-    let kind = kinds::kind_of(chip.part);
+    let kind = kinds::kind_of(s.chip.part);
     let mut write = times.write;
     let mut lines = before.lines;
     let mut i = from;
@@ -50,23 +64,28 @@ pub fn pass(
     stop_at(s, write, lines, i)
 }
 
-fn stop_at(s: State, write: u32, lines: Lines, at: usize) -> Went
-    ensures { λ r. ⌜ r ≡ record { timers = record { write = write; hold = s .timers .hold; reset = s .timers .reset; low = s .timers .low; watchdog = s .timers .watchdog }; wire = record { lines = lines; frame = s .wire .frame }; talk = s .device .talk; counter = s .device .counter; load = s .load; at = at } ⌝ }
+// Stops at the first sample with VCC good.
+pub fn pass(
+    s: State,
+    elapsed: &[u32],
+    levels: &[u8],
+    array: &[u8],
+    row: &mut [u8],
+    from: usize,
+) -> Stand
+    requires { ⌜ length (now elapsed) ≡ length (now levels) ⌝ }
+    requires { ⌜ length (now row) ≡ length (now levels) ⌝ }
+    requires { ⌜ from ≤ length (now levels) ⌝ }
+    ensures { λ r. ⌜ Goes (now (elapsed .entry)) (now (levels .entry)) from (partOf s (now (array .entry))) (now (row .entry)) (r .at) (partOf (r .state) (now (array .entry))) (now (row .exit)) ⌝ }
 {
-    let mut times = s.timers;
-    let mut wire = s.wire;
-    let device = s.device;
-    let talk = device.talk;
-    let counter = device.counter;
-    let load = s.load;
-    times.write = write;
-    wire.lines = lines;
-    Went {
-        timers: times,
-        wire,
-        talk,
-        counter,
-        load,
-        at,
+    if levels.len() <= from {
+        return Stand { state: s, at: from };
     }
+    let level = levels[from];
+    if answers::vcc(level) {
+        return Stand { state: s, at: from };
+    }
+    let first = steps::in_reset(steps::opens(s, elapsed[from], level), level);
+    row[from] = answers::answer(first);
+    go_on(first, elapsed, levels, array, row, from + 1)
 }

@@ -32,7 +32,7 @@ fn latched(good: bool, c: Control) -> Control
 }
 
 // Rules 1 and 2.
-fn opens(s: State, elapsed: u32, level: u8) -> State
+pub fn opens(s: State, elapsed: u32, level: u8) -> State
     ensures { λ r. ⌜ r ≡ opensOf elapsed level s ⌝ }
 {
     let good = answers::vcc(level);
@@ -49,7 +49,7 @@ fn opens(s: State, elapsed: u32, level: u8) -> State
 }
 
 // Rule 3.
-fn in_reset(s: State, level: u8) -> State
+pub fn in_reset(s: State, level: u8) -> State
     ensures { λ r. ⌜ r ≡ resetOf level s ⌝ }
 {
     let quiet = Wire {

@@ -1,82 +1,91 @@
 -- `plain::awake::pass` meets its contract: before each sample the part stands where the samples so far have brought it.
-use Prim.Native.Nat.{_+_, _-_, _≤_, _<_}
-use mathlib.Core.Bool.{Bool, false}
-use mathlib.Core.Path.{_≡_, refl, sym, ap, subst, _∙_}
+use Prim.Native.Nat.{ℕ, _+_, _-_, _<_, _≤_}
+use mathlib.Core.Bool.{Bool, true, false, not, _||_}
+use mathlib.Core.Logic.{⊎-elim}
+use mathlib.Core.Path.{_≡_, refl, sym, ap, _∙_}
 use native.Mathlib.Omega.{arith}
 use borrow.Author.Needs.{needs, scaled-fits}
 use lib.ListN.{length}
-use Rattle.ground.specs.Cases.{orZero, highest}
-use Rattle.ground.specs.Kind.{kindOf}
-use Rattle.part.specs.Timers.{loadedOf}
-use Rattle.plain.proofs.Empty.{never}
-use Rattle.plain.proofs.Seeing.{frameOf, wireAt, same-lines, stop-seen, start-seen, fall-none, fall-bit, fall-byte, fall-ninth, low-seen}
-use Rattle.plain.proofs.Acting.{talkOf, quiet-acts, bit-heard, bit-sent, byte-past, byte-sent, byte-taken, ninth-past, ninth-heard, ninth-ends, ninth-fetches, stop-acts}
-use Rattle.plain.proofs.Standing.{Stands, stands-first}
+use Rattle.part.specs.Page.{emptyLoad}
+use Rattle.device.specs.Bytes.{keptOf}
+use Rattle.plain.specs.Stands.{Stands}
 use Rattle.plain.proofs.Going.{goes-none}
-use Rattle.plain.proofs.Turned.{Shown, turned, started}
+use Rattle.plain.proofs.Seeing.{never}
+use Rattle.plain.proofs.Clocking.{comes-eighth, comes-ninth, comes-start, comes-stop}
+use Rattle.plain.proofs.Standing.{stands-first}
+use Rattle.plain.proofs.Arms.{kept-filled, kept-left, eighth-turn, ninth-turn, start-turn, stop-turn}
 use Rattle.plain.proofs.awake.pass.Statement.{statement}
 use Rattle.plain.proofs.awake.pass.Tie as tie
 
 abbrev Inv-loop : tie.InvT-loop
-Inv-loop s elapsed levels array row₀ from control kind dog base calm₀ write₀ running₀ left₀ all₀ room₀ scl₀ sda₀ held₀ bit₀ bits₀ shift₀ phase₀ high₀ out₀ own₀ place₀ load₀ i₀ row calm write running left all room scl sda held bit bits shift phase high out own place load i =
-    Stands s elapsed levels array row₀ from base calm write running left all room (wireAt scl sda (frameOf held bit bits shift)) (talkOf phase high out own) place load row i
-    × (control ≡ s .device .control)
-    × (kind ≡ kindOf (s .chip .part))
-    × (dog ≡ loadedOf (s .device .control .stored))
+Inv-loop s elapsed levels array row₀ from kind select base times₀ device₀ now₀ load₀ empty₀ i₀ row times device now load empty i =
+    Stands s elapsed levels array row₀ from base times device load now row i × (empty ≡ true → load ≡ emptyLoad)
 
 abbrev μ-loop : tie.MeasureT-loop
-μ-loop s elapsed levels array row₀ from control kind dog base calm₀ write₀ running₀ left₀ all₀ room₀ scl₀ sda₀ held₀ bit₀ bits₀ shift₀ phase₀ high₀ out₀ own₀ place₀ load₀ i₀ row calm write running left all room scl sda held bit bits shift phase high out own place load i =
+μ-loop s elapsed levels array row₀ from kind select base times₀ device₀ now₀ load₀ empty₀ i₀ row times device now load empty i =
     length levels - i
 
--- What every way through a turn knows, once SCL and the SDA line are read.
-seen : (c : tie.After-line Inv-loop μ-loop)
-    → Shown (c .before .before .before .before .before .before .before .before .before .before .before .before .before .before .before .before .before .before .before .before .before .before .before .before .before .before .before .before .before .before .args .s) (c .before .before .before .before .before .before .before .before .before .before .before .before .before .before .before .before .before .before .before .before .before .before .before .before .before .before .before .before .before .before .args .elapsed .now) (c .before .before .before .before .before .before .before .before .before .before .before .before .before .before .before .before .before .before .before .before .before .before .before .before .before .before .before .before .before .before .args .levels .now) (c .before .before .before .before .before .before .before .before .before .before .before .before .before .before .before .before .before .before .before .before .before .before .before .before .before .before .before .before .before .before .args .array .now) (c .before .before .before .before .before .before .before .before .before .before .before .before .before .before .before .before .before .before .before .before .before .before .before .before .before .before .before .before .before .before .args .row .now) (c .before .before .before .before .before .before .before .before .before .before .before .before .before .before .before .before .before .before .before .before .before .before .before .before .before .before .before .before .before .before .args .from) (c .before .before .before .before .before .before .before .before .before .before .before .base-of .result)
-    (c .before .before .before .before .before .before .before .before .loop .calm) (c .before .before .before .before .before .before .before .before .loop .write) (c .before .before .before .before .before .before .before .before .loop .running) (c .before .before .before .before .before .before .before .before .loop .left) (c .before .before .before .before .before .before .before .before .loop .all) (c .before .before .before .before .before .before .before .before .loop .room)
-    (wireAt (c .before .before .before .before .before .before .before .before .loop .scl) (c .before .before .before .before .before .before .before .before .loop .sda) (frameOf (c .before .before .before .before .before .before .before .before .loop .held) (c .before .before .before .before .before .before .before .before .loop .bit) (c .before .before .before .before .before .before .before .before .loop .bits) (c .before .before .before .before .before .before .before .before .loop .shift)))
-    (talkOf (c .before .before .before .before .before .before .before .before .loop .phase) (c .before .before .before .before .before .before .before .before .loop .high) (c .before .before .before .before .before .before .before .before .loop .out) (c .before .before .before .before .before .before .before .before .loop .own)) (c .before .before .before .before .before .before .before .before .loop .place) (c .before .before .before .before .before .before .before .before .loop .load) (c .before .before .before .before .before .before .before .before .loop .row) (c .before .before .before .before .before .before .before .before .loop .i) (c .before .scl .result) (c .line .result)
-seen c =
-    record {
-      stands = c .before .before .before .before .before .before .before .before .loop .inv .0;
-      more = c .before .before .before .before .before .before .before .loop-test .taken;
-      soon = c .before .before .if4 .taken;
-      good = sym (c .before .before .before .before .vcc .ensures) ∙ c .before .before .before .if3 .taken;
-      clock = c .before .scl .ensures;
-      line = c .line .ensures;
-    }
+not-not : (b : Bool) → not b ≡ false → b ≡ true
+not-not true h = refl
+not-not false h = never (sym h)
+
+neither : (a b : Bool) → (a || b) ≡ false → (a ≡ false) × (b ≡ false)
+neither true b h = never (sym h)
+neither false b h = (refl, h)
+
+neither-but : (a b : Bool) → (a || not b) ≡ false → (a ≡ false) × (b ≡ true)
+neither-but true b h = never (sym h)
+neither-but false true h = (refl, refl)
+neither-but false false h = never (sym h)
+
+-- The load after a byte, and that an empty one is empty.
+filled : (c : tie.Joined2 Inv-loop μ-loop)
+    → (c .if2 .load ≡ keptOf (c .before .before .before .before .before .before .before .before .before .before .before .before .before .before .before .before .kind-of .result) (c .before .before .before .spoken .result) (c .before .before .push .result) (c .before .before .before .before .before .before .before .before .before .before .loop .load))
+    × (c .if2 .empty ≡ true → c .if2 .load ≡ emptyLoad)
+filled c =
+    let h = c .before .fills .ensures in
+    ⊎-elim
+    (λ w. (w .3 ∙ kept-filled _ _ _ _ _ h (w .0 .taken), λ e. never (sym (w .4) ∙ e)))
+    (λ w. (w .1 ∙ kept-left _ _ _ _ _ h (w .0 .left), λ e. w .1 ∙ c .before .before .before .before .before .before .before .before .before .before .loop .inv .1 (sym (w .2) ∙ e)))
+    (c .if2 .came)
+
+-- A start leaves an empty load.
+emptied : (c : tie.Joined3 Inv-loop μ-loop) → c .if3 .load ≡ emptyLoad
+emptied c =
+    ⊎-elim
+    (λ w. w .2 ∙ w .1 .ensures)
+    (λ w. w .1 ∙ c .before .before .before .before .before .before .before .loop .inv .1 (not-not _ (w .0 .left)))
+    (c .if3 .came)
 
 returns : tie.Need-returns Inv-loop μ-loop
-returns c = goes-none _ _ _ _ _ (c .before .before .before .before .before .before .before .before .before .before .before .before .before .before .before .pre .1 .1)
-
-returns-2 : tie.Need-returns-2 Inv-loop μ-loop
-returns-2 c = goes-none _ _ _ _ _ (c .before .before .before .before .before .before .before .before .before .before .before .before .before .before .before .before .pre .1 .1)
+returns c = goes-none _ _ _ _ _ (c .before .before .before .before .before .before .before .pre .1 .1)
 
 kind-of-requires : tie.Need-kind-of-requires Inv-loop μ-loop
 kind-of-requires c κs = search needs
 
-loaded-requires : tie.Need-loaded-requires Inv-loop μ-loop
-loaded-requires c κs = search needs
-
 base-of-requires : tie.Need-base-of-requires Inv-loop μ-loop
 base-of-requires c κs = search needs
 
-is-calm-requires : tie.Need-is-calm-requires Inv-loop μ-loop
-is-calm-requires c κs = search needs
+times-of-requires : tie.Need-times-of-requires Inv-loop μ-loop
+times-of-requires c κs = search needs
 
-room-of-requires : tie.Need-room-of-requires Inv-loop μ-loop
-room-of-requires c κs = search needs
+clocks-of-requires : tie.Need-clocks-of-requires Inv-loop μ-loop
+clocks-of-requires c κs = search needs
 
 loop-holds : tie.Need-loop-holds Inv-loop μ-loop
 loop-holds c =
-    let a = c .before .before .before .before .before .before .before .before .before .before .before .before .before .before .before .before .before .before .before .before .before .args in
-    let pre = c .before .before .before .before .before .before .before .before .before .before .before .before .before .before .before .before .before .before .before .before .before .pre in
-    (stands-first (a .s) _ _ _ _ _ _ _ _ (pre .0) (pre .1 .0) (pre .1 .1) (rw (← c .before .before .before .before .kind-of .ensures) (c .before .before .base-of .ensures .0)) (c .before .before .base-of .ensures .1) (c .room-of .ensures) (c .before .is-calm .ensures) (c .before .before .before .before .before .before .if1 .left) (c .before .before .before .before .before .if2 .left), refl, c .before .before .before .before .kind-of .ensures, c .before .before .before .loaded .ensures)
+    let a = c .before .before .before .before .before .before .before .before .before .before .before .before .before .args in
+    let pre = c .before .before .before .before .before .before .before .before .before .before .before .before .before .pre in
+    let b = c .before .before .before .times-of .ensures in
+    let quiet = neither _ _ (c .before .before .before .before .before .before .if1 .left) in
+    (rw (c .before .clocks-of .ensures) (stands-first (a .s) _ _ _ _ _ _ _ (pre .0) (pre .1 .0) (pre .1 .1) (rw (← c .before .before .before .before .before .kind-of .ensures) (c .before .before .before .before .base-of .ensures .0)) (b .same) (b .room) (quiet .0) (quiet .1)), λ e. never e)
 
 mul-e : tie.Need-mul-e Inv-loop μ-loop
 mul-e c =
-    let es = c .before .before .before .before .before .before .before .before .before .before .before .before .before .before .before .before .before .before .before .before .before .before .before .args .elapsed .now in
+    let es = c .before .before .before .before .before .before .before .before .before .before .before .before .before .before .before .args .elapsed .now in
     let at = c .before .loop in
     let h : at .i < length es = omega (arith, c .loop-test .taken, at .inv .0 .long) in
-    scaled-fits (at .i) (length es) 4 h (c .before .before .before .before .before .before .before .before .before .before .before .before .before .before .before .before .before .before .before .before .before .before .before .good .1 .0 .1)
+    scaled-fits (at .i) (length es) 4 h (c .before .before .before .before .before .before .before .before .before .before .before .before .before .before .before .good .1 .0 .1)
 
 shared-slice-read-e : tie.Need-shared-slice-read-e Inv-loop μ-loop
 shared-slice-read-e c = omega (arith, c .before .loop-test .taken, c .before .before .loop .inv .0 .long)
@@ -84,188 +93,37 @@ shared-slice-read-e c = omega (arith, c .before .loop-test .taken, c .before .be
 shared-slice-read-level : tie.Need-shared-slice-read-level Inv-loop μ-loop
 shared-slice-read-level c = search needs
 
-vcc-requires : tie.Need-vcc-requires Inv-loop μ-loop
-vcc-requires c κs = search needs
+turn-of-requires : tie.Need-turn-of-requires Inv-loop μ-loop
+turn-of-requires c κs = search needs
 
-sub-rest : tie.Need-sub-rest Inv-loop μ-loop
-sub-rest c = omega (arith, c .if4 .taken)
+enum-told : tie.Need-enum-told Inv-loop μ-loop
+enum-told c = search needs
 
-scl-requires : tie.Need-scl-requires Inv-loop μ-loop
-scl-requires c κs = search needs
+sends-requires : tie.Need-sends-requires Inv-loop μ-loop
+sends-requires c κs = search needs
 
-line-requires : tie.Need-line-requires Inv-loop μ-loop
-line-requires c κs = search needs
-
-same-requires : tie.Need-same-requires Inv-loop μ-loop
-same-requires c κs = search needs
-
-said-requires : tie.Need-said-requires Inv-loop μ-loop
-said-requires c κs = c .before .before .before .before .before .before .before .before .before .before .before .before .loop .inv .0 .small
-
-slice-write-row : tie.Need-slice-write-row Inv-loop μ-loop
-slice-write-row c =
-    let g = c .before .before .before .before .before .before .before .before .before .before .before .before .before .loop .inv .0 in
-    omega (arith, c .before .before .before .before .before .before .before .before .before .before .before .before .loop-test .taken, g .wide, g .goes .long)
-
-add-i : tie.Need-add-i Inv-loop μ-loop
-add-i c = omega (arith, c .before .before .before .before .before .before .before .before .before .before .before .before .loop-test .taken, c .before .before .before .before .before .before .before .before .before .before .before .before .before .before .before .before .before .before .before .before .before .before .before .before .before .before .before .before .before .before .before .before .before .before .before .good .1 .1 .0 .0)
+pass-requires : tie.Need-pass-requires Inv-loop μ-loop
+pass-requires c κs =
+    let inv = c .before .before .before .before .before .before .before .before .before .loop .inv .0 in
+    (inv .long, (inv .goes .long ∙ inv .wide, c .before .before .before .before .before .before .before .before .before .before .before .before .before .before .base-of .ensures .1))
 
 loop-less : tie.Need-loop-less Inv-loop μ-loop
-loop-less c = omega (arith, c .before .before .before .before .before .before .before .before .before .before .before .before .loop-test .taken)
+loop-less c = omega (arith, c .before .before .before .before .before .before .before .before .before .before .before .before .loop-test .taken, c .before .before .before .pass .ensures .moves (sym (c .before .before .before .before .before .before .before .before .before .turn-of .ensures) ∙ c .before .before .before .before .before .before .before .enum-told .given .1) (c .before .before .before .before .before .before .before .before .before .before .before .before .loop-test .taken))
 
 loop-again : tie.Need-loop-again Inv-loop μ-loop
-loop-again c =
-    let g = seen (c .before .before .before .before .before) in
-    let at = c .before .before .before .before .before .before .before .before .before .before .before .before .before .loop in
-    let s = c .before .before .before .before .before .before .before .before .before .before .before .before .before .before .before .before .before .before .before .before .before .before .before .before .before .before .before .before .before .before .before .before .before .before .before .args .s in
-    (turned g _ _ _ _ _ _ _ (same-lines _ _ _ _ _ (c .before .before .before .before .if5 .taken) (c .before .before .before .if6 .taken) (sym (c .before .before .same .ensures) ∙ c .before .if7 .taken)) (quiet-acts s _ _ _ _ _ _ _ _ _) (g .stands .calms) (c .said .ensures), at .inv .1, at .inv .2, at .inv .3)
+loop-again c = (c .before .before .before .pass .ensures .stands _ _ _ _ _ _ _ (c .before .before .before .before .before .sends .ensures) (c .before .before .before .before .before .before .before .before .before .before .before .before .before .loop .inv .0), c .before .before .before .before .before .before .before .before .before .before .before .before .before .loop .inv .1)
 
-said-requires-2 : tie.Need-said-requires-2 Inv-loop μ-loop
-said-requires-2 c κs = c .before .before .before .before .before .before .before .before .before .before .before .before .before .loop .inv .0 .small
+enum-told-2 : tie.Need-enum-told-2 Inv-loop μ-loop
+enum-told-2 c = search needs
 
-slice-write-row-2 : tie.Need-slice-write-row-2 Inv-loop μ-loop
-slice-write-row-2 c =
-    let g = c .before .before .before .before .before .before .before .before .before .before .before .before .before .before .loop .inv .0 in
-    omega (arith, c .before .before .before .before .before .before .before .before .before .before .before .before .before .loop-test .taken, g .wide, g .goes .long)
-
-add-i-2 : tie.Need-add-i-2 Inv-loop μ-loop
-add-i-2 c = omega (arith, c .before .before .before .before .before .before .before .before .before .before .before .before .before .loop-test .taken, c .before .before .before .before .before .before .before .before .before .before .before .before .before .before .before .before .before .before .before .before .before .before .before .before .before .before .before .before .before .before .before .before .before .before .before .before .good .1 .1 .0 .0)
-
-loop-less-2 : tie.Need-loop-less-2 Inv-loop μ-loop
-loop-less-2 c = omega (arith, c .before .before .before .before .before .before .before .before .before .before .before .before .before .before .loop-test .taken)
-
-loop-again-2 : tie.Need-loop-again-2 Inv-loop μ-loop
-loop-again-2 c =
-    let g = seen (c .before .before .before .before .before .before .before) in
-    let at = c .before .before .before .before .before .before .before .before .before .before .before .before .before .before .before .loop in
-    let s = c .before .before .before .before .before .before .before .before .before .before .before .before .before .before .before .before .before .before .before .before .before .before .before .before .before .before .before .before .before .before .before .before .before .before .before .before .before .args .s in
-    (turned g _ _ _ _ _ _ _ (stop-seen _ _ _ _ _ (c .before .before .before .before .before .before .if5 .taken) (c .before .before .before .before .before .if6 .taken) (sym (c .before .before .before .before .same .ensures) ∙ c .before .before .before .if7 .left) (c .if9 .taken)) (stop-acts s _ _ _ _ _ _ _ _ _ (_) (g .stands .calms (c .before .before .if8 .taken))) (g .stands .calms) (c .before .said2 .ensures), at .inv .1, at .inv .2, at .inv .3)
-
-sub-less : tie.Need-sub-less Inv-loop μ-loop
-sub-less c = omega (arith, c .before .before .before .before .before .before .before .before .before .before .before .before .before .before .before .loop .inv .0 .fits)
-
-less-requires : tie.Need-less-requires Inv-loop μ-loop
-less-requires c κs = search needs
-
-start-phase-requires : tie.Need-start-phase-requires Inv-loop μ-loop
-start-phase-requires c κs = search needs
-
-room-of-requires-2 : tie.Need-room-of-requires-2 Inv-loop μ-loop
-room-of-requires-2 c κs = search needs
-
-loop-less-3 : tie.Need-loop-less-3 Inv-loop μ-loop
-loop-less-3 c = omega (arith, c .before .before .before .before .before .before .before .before .before .before .before .before .before .before .before .before .before .loop-test .taken)
-
-loop-again-3 : tie.Need-loop-again-3 Inv-loop μ-loop
-loop-again-3 c =
-    let g = seen (c .before .before .before .before .before .before .before .before .before .before) in
-    let at = c .before .before .before .before .before .before .before .before .before .before .before .before .before .before .before .before .before .before .loop in
-    (rw (c .before .start-phase .ensures) (started g _ _ _ _ _ (start-seen _ _ _ _ _ (c .before .before .before .before .before .before .before .before .before .if5 .taken) (c .before .before .before .before .before .before .before .before .if6 .taken) (sym (c .before .before .before .before .before .before .before .same .ensures) ∙ c .before .before .before .before .before .before .if7 .left) (c .before .before .before .if9 .left)) (c .before .before .before .before .before .if8 .taken) (c .before .before .less .ensures) (at .inv .3) (c .room-of2 .ensures) (c .before .before .before .before .said2 .ensures)), at .inv .1, at .inv .2, at .inv .3)
-
-way-of-requires : tie.Need-way-of-requires Inv-loop μ-loop
-way-of-requires c κs = search needs
+spoken-requires : tie.Need-spoken-requires Inv-loop μ-loop
+spoken-requires c κs = search needs
 
 push-requires : tie.Need-push-requires Inv-loop μ-loop
 push-requires c κs = search needs
 
-add-bits : tie.Need-add-bits Inv-loop μ-loop
-add-bits c = omega (arith, c .before .if11 .taken)
-
-said-requires-3 : tie.Need-said-requires-3 Inv-loop μ-loop
-said-requires-3 c κs = c .before .before .before .before .before .before .before .before .before .before .before .before .before .before .before .loop .inv .0 .small
-
-slice-write-row-3 : tie.Need-slice-write-row-3 Inv-loop μ-loop
-slice-write-row-3 c =
-    let g = c .before .before .before .before .before .before .before .before .before .before .before .before .before .before .before .before .loop .inv .0 in
-    omega (arith, c .before .before .before .before .before .before .before .before .before .before .before .before .before .before .before .loop-test .taken, g .wide, g .goes .long)
-
-add-i-3 : tie.Need-add-i-3 Inv-loop μ-loop
-add-i-3 c = omega (arith, c .before .before .before .before .before .before .before .before .before .before .before .before .before .before .before .loop-test .taken, c .before .before .before .before .before .before .before .before .before .before .before .before .before .before .before .before .before .before .before .before .before .before .before .before .before .before .before .before .before .before .before .before .before .before .before .before .before .before .good .1 .1 .0 .0)
-
-loop-less-4 : tie.Need-loop-less-4 Inv-loop μ-loop
-loop-less-4 c = omega (arith, c .before .before .before .before .before .before .before .before .before .before .before .before .before .before .before .loop-test .taken)
-
-loop-again-4 : tie.Need-loop-again-4 Inv-loop μ-loop
-loop-again-4 c =
-    let g = seen (c .before .before .before .before .before .before .before .before) in
-    let at = c .before .before .before .before .before .before .before .before .before .before .before .before .before .before .before .before .loop in
-    let s = c .before .before .before .before .before .before .before .before .before .before .before .before .before .before .before .before .before .before .before .before .before .before .before .before .before .before .before .before .before .before .before .before .before .before .before .before .before .before .args .s in
-    (rw (c .before .before .push .ensures) (turned g _ _ _ _ _ _ _ (fall-bit _ _ _ _ _ _ _ _ (c .before .before .before .before .before .before .before .if5 .taken) (c .before .before .before .before .before .before .if6 .left) (c .before .before .before .before .before .if10 .taken) (c .before .before .before .if11 .taken)) (bit-heard s _ _ _ _ _ _ _ _ _ (subst (λ x. x < 3) (c .before .before .before .before .way-of .ensures) (c .before .if12 .taken))) (g .stands .calms) (c .said3 .ensures)), at .inv .1, at .inv .2, at .inv .3)
-
-shifted-requires : tie.Need-shifted-requires Inv-loop μ-loop
-shifted-requires c κs = search needs
-
-top-requires : tie.Need-top-requires Inv-loop μ-loop
-top-requires c κs = search needs
-
-said-requires-4 : tie.Need-said-requires-4 Inv-loop μ-loop
-said-requires-4 c κs = c .before .before .before .before .before .before .before .before .before .before .before .before .before .before .before .before .before .loop .inv .0 .small
-
-slice-write-row-4 : tie.Need-slice-write-row-4 Inv-loop μ-loop
-slice-write-row-4 c =
-    let g = c .before .before .before .before .before .before .before .before .before .before .before .before .before .before .before .before .before .before .loop .inv .0 in
-    omega (arith, c .before .before .before .before .before .before .before .before .before .before .before .before .before .before .before .before .before .loop-test .taken, g .wide, g .goes .long)
-
-add-i-4 : tie.Need-add-i-4 Inv-loop μ-loop
-add-i-4 c = omega (arith, c .before .before .before .before .before .before .before .before .before .before .before .before .before .before .before .before .before .loop-test .taken, c .before .before .before .before .before .before .before .before .before .before .before .before .before .before .before .before .before .before .before .before .before .before .before .before .before .before .before .before .before .before .before .before .before .before .before .before .before .before .before .before .good .1 .1 .0 .0)
-
-loop-less-5 : tie.Need-loop-less-5 Inv-loop μ-loop
-loop-less-5 c = omega (arith, c .before .before .before .before .before .before .before .before .before .before .before .before .before .before .before .before .before .loop-test .taken)
-
-loop-again-5 : tie.Need-loop-again-5 Inv-loop μ-loop
-loop-again-5 c =
-    let g = seen (c .before .before .before .before .before .before .before .before .before .before) in
-    let at = c .before .before .before .before .before .before .before .before .before .before .before .before .before .before .before .before .before .before .loop in
-    let s = c .before .before .before .before .before .before .before .before .before .before .before .before .before .before .before .before .before .before .before .before .before .before .before .before .before .before .before .before .before .before .before .before .before .before .before .before .before .before .before .before .args .s in
-    (rw (c .before .top .ensures, c .before .before .shifted .ensures, c .before .before .before .before .push .ensures) (turned g _ _ _ _ _ _ _ (fall-bit _ _ _ _ _ _ _ _ (c .before .before .before .before .before .before .before .before .before .if5 .taken) (c .before .before .before .before .before .before .before .before .if6 .left) (c .before .before .before .before .before .before .before .if10 .taken) (c .before .before .before .before .before .if11 .taken)) (bit-sent s _ _ _ _ _ _ _ _ _ (subst (λ x. 3 ≤ x) (c .before .before .before .before .before .before .way-of .ensures) (c .before .before .before .if12 .left))) (g .stands .calms) (c .said4 .ensures ∙ ap (λ (b : Bool). orZero b 1 + c .before .before .before .before .before .before .before .before .before .before .before .before .before .before .before .before .before .before .before .before .before .base-of .result) (c .before .top .ensures ∙ ap highest (c .before .before .shifted .ensures)))), at .inv .1, at .inv .2, at .inv .3)
-
-push-requires-2 : tie.Need-push-requires-2 Inv-loop μ-loop
-push-requires-2 c κs = search needs
-
-said-requires-5 : tie.Need-said-requires-5 Inv-loop μ-loop
-said-requires-5 c κs = c .before .before .before .before .before .before .before .before .before .before .before .before .before .before .before .before .loop .inv .0 .small
-
-slice-write-row-5 : tie.Need-slice-write-row-5 Inv-loop μ-loop
-slice-write-row-5 c =
-    let g = c .before .before .before .before .before .before .before .before .before .before .before .before .before .before .before .before .before .loop .inv .0 in
-    omega (arith, c .before .before .before .before .before .before .before .before .before .before .before .before .before .before .before .before .loop-test .taken, g .wide, g .goes .long)
-
-add-i-5 : tie.Need-add-i-5 Inv-loop μ-loop
-add-i-5 c = omega (arith, c .before .before .before .before .before .before .before .before .before .before .before .before .before .before .before .before .loop-test .taken, c .before .before .before .before .before .before .before .before .before .before .before .before .before .before .before .before .before .before .before .before .before .before .before .before .before .before .before .before .before .before .before .before .before .before .before .before .before .before .before .good .1 .1 .0 .0)
-
-loop-less-6 : tie.Need-loop-less-6 Inv-loop μ-loop
-loop-less-6 c = omega (arith, c .before .before .before .before .before .before .before .before .before .before .before .before .before .before .before .before .loop-test .taken)
-
-loop-again-6 : tie.Need-loop-again-6 Inv-loop μ-loop
-loop-again-6 c =
-    let g = seen (c .before .before .before .before .before .before .before .before .before) in
-    let at = c .before .before .before .before .before .before .before .before .before .before .before .before .before .before .before .before .before .loop in
-    let s = c .before .before .before .before .before .before .before .before .before .before .before .before .before .before .before .before .before .before .before .before .before .before .before .before .before .before .before .before .before .before .before .before .before .before .before .before .before .before .before .args .s in
-    (rw (c .before .before .push2 .ensures) (turned g _ _ _ _ _ _ _ (fall-byte _ _ _ _ _ _ _ _ (c .before .before .before .before .before .before .before .before .if5 .taken) (c .before .before .before .before .before .before .before .if6 .left) (c .before .before .before .before .before .before .if10 .taken) (c .before .before .before .if13 .taken)) (byte-past s _ _ _ _ _ _ _ _ _ (_) (sym (c .before .before .before .before .before .way-of .ensures) ∙ c .before .if14 .taken)) (g .stands .calms) (c .said5 .ensures)), at .inv .1, at .inv .2, at .inv .3)
-
-said-requires-6 : tie.Need-said-requires-6 Inv-loop μ-loop
-said-requires-6 c κs = c .before .before .before .before .before .before .before .before .before .before .before .before .before .before .before .before .before .loop .inv .0 .small
-
-slice-write-row-6 : tie.Need-slice-write-row-6 Inv-loop μ-loop
-slice-write-row-6 c =
-    let g = c .before .before .before .before .before .before .before .before .before .before .before .before .before .before .before .before .before .before .loop .inv .0 in
-    omega (arith, c .before .before .before .before .before .before .before .before .before .before .before .before .before .before .before .before .before .loop-test .taken, g .wide, g .goes .long)
-
-add-i-6 : tie.Need-add-i-6 Inv-loop μ-loop
-add-i-6 c = omega (arith, c .before .before .before .before .before .before .before .before .before .before .before .before .before .before .before .before .before .loop-test .taken, c .before .before .before .before .before .before .before .before .before .before .before .before .before .before .before .before .before .before .before .before .before .before .before .before .before .before .before .before .before .before .before .before .before .before .before .before .before .before .before .before .good .1 .1 .0 .0)
-
-loop-less-7 : tie.Need-loop-less-7 Inv-loop μ-loop
-loop-less-7 c = omega (arith, c .before .before .before .before .before .before .before .before .before .before .before .before .before .before .before .before .before .loop-test .taken)
-
-loop-again-7 : tie.Need-loop-again-7 Inv-loop μ-loop
-loop-again-7 c =
-    let g = seen (c .before .before .before .before .before .before .before .before .before .before) in
-    let at = c .before .before .before .before .before .before .before .before .before .before .before .before .before .before .before .before .before .before .loop in
-    let s = c .before .before .before .before .before .before .before .before .before .before .before .before .before .before .before .before .before .before .before .before .before .before .before .before .before .before .before .before .before .before .before .before .before .before .before .before .before .before .before .before .args .s in
-    (rw (c .before .before .before .push2 .ensures) (turned g _ _ _ _ _ _ _ (fall-byte _ _ _ _ _ _ _ _ (c .before .before .before .before .before .before .before .before .before .if5 .taken) (c .before .before .before .before .before .before .before .before .if6 .left) (c .before .before .before .before .before .before .before .if10 .taken) (c .before .before .before .before .if13 .taken)) (byte-sent s _ _ _ _ _ _ _ _ _ (_) (sym (c .before .before .before .before .before .before .way-of .ensures) ∙ c .before .if15 .taken)) (g .stands .calms) (c .said6 .ensures)), at .inv .1, at .inv .2, at .inv .3)
-
-takes-requires : tie.Need-takes-requires Inv-loop μ-loop
-takes-requires c κs = search needs
+fills-requires : tie.Need-fills-requires Inv-loop μ-loop
+fills-requires c κs = search needs
 
 cast-index : tie.Need-cast-index Inv-loop μ-loop
 cast-index c = search needs
@@ -276,170 +134,165 @@ element-write-load c = search needs
 element-write-load-2 : tie.Need-element-write-load-2 Inv-loop μ-loop
 element-write-load-2 c = search needs
 
-next-in-page-requires : tie.Need-next-in-page-requires Inv-loop μ-loop
-next-in-page-requires c κs = search needs
+byte-requires : tie.Need-byte-requires Inv-loop μ-loop
+byte-requires c κs = search needs
 
-said-requires-7 : tie.Need-said-requires-7 Inv-loop μ-loop
-said-requires-7 c κs = c .before .before .before .before .before .before .before .before .before .before .before .before .before .before .before .before .before .before .before .before .before .before .loop .inv .0 .small
+line-requires : tie.Need-line-requires Inv-loop μ-loop
+line-requires c κs = search needs
 
-slice-write-row-7 : tie.Need-slice-write-row-7 Inv-loop μ-loop
-slice-write-row-7 c =
-    let g = c .before .before .before .before .before .before .before .before .before .before .before .before .before .before .before .before .before .before .before .before .before .before .before .loop .inv .0 in
-    omega (arith, c .before .before .before .before .before .before .before .before .before .before .before .before .before .before .before .before .before .before .before .before .before .before .loop-test .taken, g .wide, g .goes .long)
+sub-free : tie.Need-sub-free Inv-loop μ-loop
+sub-free c =
+    let k = comes-eighth _ _ _ (sym (c .before .before .before .before .before .before .before .before .before .turn-of .ensures) ∙ c .before .before .before .before .before .before .before .enum-told2 .given .1) in
+    omega (arith, k .soon)
 
-add-i-7 : tie.Need-add-i-7 Inv-loop μ-loop
-add-i-7 c = omega (arith, c .before .before .before .before .before .before .before .before .before .before .before .before .before .before .before .before .before .before .before .before .before .before .loop-test .taken, c .before .before .before .before .before .before .before .before .before .before .before .before .before .before .before .before .before .before .before .before .before .before .before .before .before .before .before .before .before .before .before .before .before .before .before .before .before .before .before .before .before .before .before .before .before .good .1 .1 .0 .0)
+free-requires : tie.Need-free-requires Inv-loop μ-loop
+free-requires c κs = search needs
 
-loop-less-8 : tie.Need-loop-less-8 Inv-loop μ-loop
-loop-less-8 c = omega (arith, c .before .before .before .before .before .before .before .before .before .before .before .before .before .before .before .before .before .before .before .before .before .before .loop-test .taken)
+said-requires : tie.Need-said-requires Inv-loop μ-loop
+said-requires c κs = c .before .before .before .before .before .before .before .before .before .before .before .before .before .before .before .before .before .before .before .base-of .ensures .1
 
-loop-again-8 : tie.Need-loop-again-8 Inv-loop μ-loop
-loop-again-8 c =
-    let g = seen (c .before .before .before .before .before .before .before .before .before .before .before .before .before .before .before) in
-    let at = c .before .before .before .before .before .before .before .before .before .before .before .before .before .before .before .before .before .before .before .before .before .before .before .loop in
-    let s = c .before .before .before .before .before .before .before .before .before .before .before .before .before .before .before .before .before .before .before .before .before .before .before .before .before .before .before .before .before .before .before .before .before .before .before .before .before .before .before .before .before .before .before .before .before .args .s in
-    (rw (c .before .next-in-page .ensures, c .before .before .before .before .before .before .before .before .push2 .ensures) (turned g false _ _ _ _ _ _ (fall-byte _ _ _ _ _ _ _ _ (c .before .before .before .before .before .before .before .before .before .before .before .before .before .before .if5 .taken) (c .before .before .before .before .before .before .before .before .before .before .before .before .before .if6 .left) (c .before .before .before .before .before .before .before .before .before .before .before .before .if10 .taken) (c .before .before .before .before .before .before .before .before .before .if13 .taken)) (byte-taken s _ _ _ _ _ _ _ _ _ (_) (sym (c .before .before .before .before .before .before .before .before .before .before .before .way-of .ensures) ∙ c .before .before .before .before .before .if16 .taken) (rw (← at .inv .2) (sym (c .before .before .before .before .takes .ensures) ∙ c .before .before .before .if17 .taken))) (never) (c .said7 .ensures)), at .inv .1, at .inv .2, at .inv .3)
+slice-write-row : tie.Need-slice-write-row Inv-loop μ-loop
+slice-write-row c =
+    let inv = c .before .before .before .before .before .before .before .before .before .before .before .before .before .before .before .loop .inv .0 in
+    omega (arith, c .before .before .before .before .before .before .before .before .before .before .before .before .before .before .loop-test .taken, inv .wide, inv .goes .long)
 
-said-requires-8 : tie.Need-said-requires-8 Inv-loop μ-loop
-said-requires-8 c κs = c .before .before .before .before .before .before .before .before .before .before .before .before .before .before .before .before .loop .inv .0 .small
+add-i : tie.Need-add-i Inv-loop μ-loop
+add-i c = omega (arith, c .before .before .before .before .before .before .before .before .before .before .before .before .before .before .loop-test .taken, c .before .before .before .before .before .before .before .before .before .before .before .before .before .before .before .before .before .before .before .before .before .before .before .before .before .before .before .before .before .good .1 .1 .0 .0)
 
-slice-write-row-8 : tie.Need-slice-write-row-8 Inv-loop μ-loop
-slice-write-row-8 c =
-    let g = c .before .before .before .before .before .before .before .before .before .before .before .before .before .before .before .before .before .loop .inv .0 in
-    omega (arith, c .before .before .before .before .before .before .before .before .before .before .before .before .before .before .before .before .loop-test .taken, g .wide, g .goes .long)
+loop-less-2 : tie.Need-loop-less-2 Inv-loop μ-loop
+loop-less-2 c = omega (arith, c .before .before .before .before .before .before .before .before .before .before .before .before .before .before .loop-test .taken)
 
-add-i-8 : tie.Need-add-i-8 Inv-loop μ-loop
-add-i-8 c = omega (arith, c .before .before .before .before .before .before .before .before .before .before .before .before .before .before .before .before .loop-test .taken, c .before .before .before .before .before .before .before .before .before .before .before .before .before .before .before .before .before .before .before .before .before .before .before .before .before .before .before .before .before .before .before .before .before .before .before .before .before .before .before .good .1 .1 .0 .0)
+loop-again-2 : tie.Need-loop-again-2 Inv-loop μ-loop
+loop-again-2 c =
+    let at = c .before .before .before .before .before .before .before .before .before .before .before .before .before .before .before .loop in
+    let k = comes-eighth _ _ _ (sym (c .before .before .before .before .before .before .before .before .before .before .before .turn-of .ensures) ∙ c .before .before .before .before .before .before .before .before .before .enum-told2 .given .1) in
+    let f = filled (c .before .before .before .before .before) in
+    (eighth-turn (at .inv .0) (c .before .before .before .before .before .before .before .before .before .before .before .before .before .before .loop-test .taken) (c .before .before .before .before .before .before .before .before .before .before .before .before .before .before .before .before .before .before .before .before .before .kind-of .result) (c .before .before .before .before .before .before .before .before .spoken .result) _ _ _ _ _ _ _ k (c .before .before .before .before .before .before .before .push .ensures) (c .before .before .before .before .before .before .before .before .before .before .before .before .before .before .before .before .before .before .before .before .before .kind-of .ensures) (c .before .before .before .before .before .before .before .before .spoken .ensures) (c .before .before .before .before .byte .ensures) (f .0) (c .before .free .ensures) (c .before .before .before .line .ensures) refl (c .said .ensures), f .1)
 
-loop-less-9 : tie.Need-loop-less-9 Inv-loop μ-loop
-loop-less-9 c = omega (arith, c .before .before .before .before .before .before .before .before .before .before .before .before .before .before .before .before .loop-test .taken)
+enum-told-3 : tie.Need-enum-told-3 Inv-loop μ-loop
+enum-told-3 c = search needs
 
-loop-again-9 : tie.Need-loop-again-9 Inv-loop μ-loop
-loop-again-9 c =
-    let g = seen (c .before .before .before .before .before .before .before .before .before) in
-    let at = c .before .before .before .before .before .before .before .before .before .before .before .before .before .before .before .before .before .loop in
-    let s = c .before .before .before .before .before .before .before .before .before .before .before .before .before .before .before .before .before .before .before .before .before .before .before .before .before .before .before .before .before .before .before .before .before .before .before .before .before .before .before .args .s in
-    (turned g _ _ _ _ _ _ _ (fall-ninth _ _ _ _ _ _ _ _ (c .before .before .before .before .before .before .before .before .if5 .taken) (c .before .before .before .before .before .before .before .if6 .left) (c .before .before .before .before .before .before .if10 .taken) (c .before .before .before .before .if11 .left) (c .before .before .before .if13 .left)) (ninth-past s _ _ _ _ _ _ _ _ _ (_) (sym (c .before .before .before .before .before .way-of .ensures) ∙ c .before .if19 .taken)) (g .stands .calms) (c .said8 .ensures), at .inv .1, at .inv .2, at .inv .3)
+spoken-requires-2 : tie.Need-spoken-requires-2 Inv-loop μ-loop
+spoken-requires-2 c κs = search needs
 
-said-requires-9 : tie.Need-said-requires-9 Inv-loop μ-loop
-said-requires-9 c κs = c .before .before .before .before .before .before .before .before .before .before .before .before .before .before .before .before .before .loop .inv .0 .small
+ninth-requires : tie.Need-ninth-requires Inv-loop μ-loop
+ninth-requires c κs = search needs
 
-slice-write-row-9 : tie.Need-slice-write-row-9 Inv-loop μ-loop
-slice-write-row-9 c =
-    let g = c .before .before .before .before .before .before .before .before .before .before .before .before .before .before .before .before .before .before .loop .inv .0 in
-    omega (arith, c .before .before .before .before .before .before .before .before .before .before .before .before .before .before .before .before .before .loop-test .taken, g .wide, g .goes .long)
+line-requires-2 : tie.Need-line-requires-2 Inv-loop μ-loop
+line-requires-2 c κs = search needs
 
-add-i-9 : tie.Need-add-i-9 Inv-loop μ-loop
-add-i-9 c = omega (arith, c .before .before .before .before .before .before .before .before .before .before .before .before .before .before .before .before .before .loop-test .taken, c .before .before .before .before .before .before .before .before .before .before .before .before .before .before .before .before .before .before .before .before .before .before .before .before .before .before .before .before .before .before .before .before .before .before .before .before .before .before .before .before .good .1 .1 .0 .0)
+sub-free-2 : tie.Need-sub-free-2 Inv-loop μ-loop
+sub-free-2 c =
+    let k = comes-ninth _ _ _ (sym (c .before .before .before .before .before .before .turn-of .ensures) ∙ c .before .before .before .before .enum-told3 .given .1) in
+    omega (arith, k .soon)
 
-loop-less-10 : tie.Need-loop-less-10 Inv-loop μ-loop
-loop-less-10 c = omega (arith, c .before .before .before .before .before .before .before .before .before .before .before .before .before .before .before .before .before .loop-test .taken)
+free-requires-2 : tie.Need-free-requires-2 Inv-loop μ-loop
+free-requires-2 c κs = search needs
 
-loop-again-10 : tie.Need-loop-again-10 Inv-loop μ-loop
-loop-again-10 c =
-    let g = seen (c .before .before .before .before .before .before .before .before .before .before) in
-    let at = c .before .before .before .before .before .before .before .before .before .before .before .before .before .before .before .before .before .before .loop in
-    let s = c .before .before .before .before .before .before .before .before .before .before .before .before .before .before .before .before .before .before .before .before .before .before .before .before .before .before .before .before .before .before .before .before .before .before .before .before .before .before .before .before .args .s in
-    (turned g _ _ _ _ _ _ _ (fall-ninth _ _ _ _ _ _ _ _ (c .before .before .before .before .before .before .before .before .before .if5 .taken) (c .before .before .before .before .before .before .before .before .if6 .left) (c .before .before .before .before .before .before .before .if10 .taken) (c .before .before .before .before .before .if11 .left) (c .before .before .before .before .if13 .left)) (ninth-heard s _ _ _ _ _ _ _ _ _ (_) (λ z. c .before .before .before .if18 .left (c .before .before .before .before .before .before .way-of .ensures ∙ z)) (λ z. c .before .before .if19 .left (c .before .before .before .before .before .before .way-of .ensures ∙ z)) (subst (λ x. x < 3) (c .before .before .before .before .before .before .way-of .ensures) (c .before .if20 .taken))) (g .stands .calms) (c .said9 .ensures), at .inv .1, at .inv .2, at .inv .3)
+said-requires-2 : tie.Need-said-requires-2 Inv-loop μ-loop
+said-requires-2 c κs = c .before .before .before .before .before .before .before .before .before .before .before .before .before .before .before .before .base-of .ensures .1
 
-said-requires-10 : tie.Need-said-requires-10 Inv-loop μ-loop
-said-requires-10 c κs = c .before .before .before .before .before .before .before .before .before .before .before .before .before .before .before .before .before .before .loop .inv .0 .small
+slice-write-row-2 : tie.Need-slice-write-row-2 Inv-loop μ-loop
+slice-write-row-2 c =
+    let inv = c .before .before .before .before .before .before .before .before .before .before .before .before .loop .inv .0 in
+    omega (arith, c .before .before .before .before .before .before .before .before .before .before .before .loop-test .taken, inv .wide, inv .goes .long)
 
-slice-write-row-10 : tie.Need-slice-write-row-10 Inv-loop μ-loop
-slice-write-row-10 c =
-    let g = c .before .before .before .before .before .before .before .before .before .before .before .before .before .before .before .before .before .before .before .loop .inv .0 in
-    omega (arith, c .before .before .before .before .before .before .before .before .before .before .before .before .before .before .before .before .before .before .loop-test .taken, g .wide, g .goes .long)
+add-i-2 : tie.Need-add-i-2 Inv-loop μ-loop
+add-i-2 c = omega (arith, c .before .before .before .before .before .before .before .before .before .before .before .loop-test .taken, c .before .before .before .before .before .before .before .before .before .before .before .before .before .before .before .before .before .before .before .before .before .before .before .before .before .before .good .1 .1 .0 .0)
 
-add-i-10 : tie.Need-add-i-10 Inv-loop μ-loop
-add-i-10 c = omega (arith, c .before .before .before .before .before .before .before .before .before .before .before .before .before .before .before .before .before .before .loop-test .taken, c .before .before .before .before .before .before .before .before .before .before .before .before .before .before .before .before .before .before .before .before .before .before .before .before .before .before .before .before .before .before .before .before .before .before .before .before .before .before .before .before .before .good .1 .1 .0 .0)
+loop-less-3 : tie.Need-loop-less-3 Inv-loop μ-loop
+loop-less-3 c = omega (arith, c .before .before .before .before .before .before .before .before .before .before .before .loop-test .taken)
 
-loop-less-11 : tie.Need-loop-less-11 Inv-loop μ-loop
-loop-less-11 c = omega (arith, c .before .before .before .before .before .before .before .before .before .before .before .before .before .before .before .before .before .before .loop-test .taken)
-
-loop-again-11 : tie.Need-loop-again-11 Inv-loop μ-loop
-loop-again-11 c =
-    let g = seen (c .before .before .before .before .before .before .before .before .before .before .before) in
-    let at = c .before .before .before .before .before .before .before .before .before .before .before .before .before .before .before .before .before .before .before .loop in
-    let s = c .before .before .before .before .before .before .before .before .before .before .before .before .before .before .before .before .before .before .before .before .before .before .before .before .before .before .before .before .before .before .before .before .before .before .before .before .before .before .before .before .before .args .s in
-    (turned g _ _ _ _ _ _ _ (fall-ninth _ _ _ _ _ _ _ _ (c .before .before .before .before .before .before .before .before .before .before .if5 .taken) (c .before .before .before .before .before .before .before .before .before .if6 .left) (c .before .before .before .before .before .before .before .before .if10 .taken) (c .before .before .before .before .before .before .if11 .left) (c .before .before .before .before .before .if13 .left)) (ninth-ends s _ _ _ _ _ _ _ _ _ (_) (λ z. c .before .before .before .before .if18 .left (c .before .before .before .before .before .before .before .way-of .ensures ∙ z)) (subst (λ x. 3 ≤ x) (c .before .before .before .before .before .before .before .way-of .ensures) (c .before .before .if20 .left)) (c .before .if21 .taken)) (g .stands .calms) (c .said10 .ensures), at .inv .1, at .inv .2, at .inv .3)
-
-fetched-requires : tie.Need-fetched-requires Inv-loop μ-loop
-fetched-requires c κs = search needs
-
-top-requires-2 : tie.Need-top-requires-2 Inv-loop μ-loop
-top-requires-2 c κs = search needs
-
-next-in-array-requires : tie.Need-next-in-array-requires Inv-loop μ-loop
-next-in-array-requires c κs = search needs
-
-said-requires-11 : tie.Need-said-requires-11 Inv-loop μ-loop
-said-requires-11 c κs = c .before .before .before .before .before .before .before .before .before .before .before .before .before .before .before .before .before .before .before .before .before .loop .inv .0 .small
-
-slice-write-row-11 : tie.Need-slice-write-row-11 Inv-loop μ-loop
-slice-write-row-11 c =
-    let g = c .before .before .before .before .before .before .before .before .before .before .before .before .before .before .before .before .before .before .before .before .before .before .loop .inv .0 in
-    omega (arith, c .before .before .before .before .before .before .before .before .before .before .before .before .before .before .before .before .before .before .before .before .before .loop-test .taken, g .wide, g .goes .long)
-
-add-i-11 : tie.Need-add-i-11 Inv-loop μ-loop
-add-i-11 c = omega (arith, c .before .before .before .before .before .before .before .before .before .before .before .before .before .before .before .before .before .before .before .before .before .loop-test .taken, c .before .before .before .before .before .before .before .before .before .before .before .before .before .before .before .before .before .before .before .before .before .before .before .before .before .before .before .before .before .before .before .before .before .before .before .before .before .before .before .before .before .before .before .before .good .1 .1 .0 .0)
-
-loop-less-12 : tie.Need-loop-less-12 Inv-loop μ-loop
-loop-less-12 c = omega (arith, c .before .before .before .before .before .before .before .before .before .before .before .before .before .before .before .before .before .before .before .before .before .loop-test .taken)
-
-loop-again-12 : tie.Need-loop-again-12 Inv-loop μ-loop
-loop-again-12 c =
-    let g = seen (c .before .before .before .before .before .before .before .before .before .before .before .before .before .before) in
-    let at = c .before .before .before .before .before .before .before .before .before .before .before .before .before .before .before .before .before .before .before .before .before .before .loop in
-    let s = c .before .before .before .before .before .before .before .before .before .before .before .before .before .before .before .before .before .before .before .before .before .before .before .before .before .before .before .before .before .before .before .before .before .before .before .before .before .before .before .before .before .before .before .before .args .s in
-    (rw (c .before .next-in-array .ensures, c .before .before .top2 .ensures, c .before .before .before .fetched .ensures, at .inv .2) (turned g _ _ _ _ _ _ _ (fall-ninth _ _ _ _ _ _ _ _ (c .before .before .before .before .before .before .before .before .before .before .before .before .before .if5 .taken) (c .before .before .before .before .before .before .before .before .before .before .before .before .if6 .left) (c .before .before .before .before .before .before .before .before .before .before .before .if10 .taken) (c .before .before .before .before .before .before .before .before .before .if11 .left) (c .before .before .before .before .before .before .before .before .if13 .left)) (ninth-fetches s _ _ _ _ _ _ _ _ _ (_) (λ z. c .before .before .before .before .before .before .before .if18 .left (c .before .before .before .before .before .before .before .before .before .before .way-of .ensures ∙ z)) (subst (λ x. 3 ≤ x) (c .before .before .before .before .before .before .before .before .before .before .way-of .ensures) (c .before .before .before .before .before .if20 .left)) (c .before .before .before .before .if21 .left)) (g .stands .calms) (c .said11 .ensures ∙ ap (λ (b : Bool). orZero b 1 + c .before .before .before .before .before .before .before .before .before .before .before .before .before .before .before .before .before .before .before .before .before .before .before .before .before .base-of .result) (c .before .before .top2 .ensures ∙ ap highest (c .before .before .before .fetched .ensures)))), at .inv .1, at .inv .2, at .inv .3)
-
-said-requires-12 : tie.Need-said-requires-12 Inv-loop μ-loop
-said-requires-12 c κs = c .before .before .before .before .before .before .before .before .before .before .before .loop .inv .0 .small
-
-slice-write-row-12 : tie.Need-slice-write-row-12 Inv-loop μ-loop
-slice-write-row-12 c =
-    let g = c .before .before .before .before .before .before .before .before .before .before .before .before .loop .inv .0 in
-    omega (arith, c .before .before .before .before .before .before .before .before .before .before .before .loop-test .taken, g .wide, g .goes .long)
-
-add-i-12 : tie.Need-add-i-12 Inv-loop μ-loop
-add-i-12 c = omega (arith, c .before .before .before .before .before .before .before .before .before .before .before .loop-test .taken, c .before .before .before .before .before .before .before .before .before .before .before .before .before .before .before .before .before .before .before .before .before .before .before .before .before .before .before .before .before .before .before .before .before .before .good .1 .1 .0 .0)
-
-loop-less-13 : tie.Need-loop-less-13 Inv-loop μ-loop
-loop-less-13 c = omega (arith, c .before .before .before .before .before .before .before .before .before .before .before .loop-test .taken)
-
-loop-again-13 : tie.Need-loop-again-13 Inv-loop μ-loop
-loop-again-13 c =
-    let g = seen (c .before .before .before .before) in
+loop-again-3 : tie.Need-loop-again-3 Inv-loop μ-loop
+loop-again-3 c =
     let at = c .before .before .before .before .before .before .before .before .before .before .before .before .loop in
-    let s = c .before .before .before .before .before .before .before .before .before .before .before .before .before .before .before .before .before .before .before .before .before .before .before .before .before .before .before .before .before .before .before .before .before .before .args .s in
-    (turned g _ _ _ _ _ _ _ (fall-none _ _ _ _ _ _ _ _ (c .before .before .before .if5 .taken) (c .before .before .if6 .left) (c .before .if10 .left)) (quiet-acts s _ _ _ _ _ _ _ _ _) (g .stands .calms) (c .said12 .ensures), at .inv .1, at .inv .2, at .inv .3)
+    let k = comes-ninth _ _ _ (sym (c .before .before .before .before .before .before .before .before .turn-of .ensures) ∙ c .before .before .before .before .before .before .enum-told3 .given .1) in
+    (ninth-turn (at .inv .0) (c .before .before .before .before .before .before .before .before .before .before .before .loop-test .taken) (c .before .before .before .before .before .before .before .before .before .before .before .before .before .before .before .before .before .before .kind-of .result) (c .before .before .before .before .before .spoken2 .result) _ _ _ _ _ k (c .before .before .before .before .before .before .before .before .before .before .before .before .before .before .before .before .before .before .kind-of .ensures) (c .before .before .before .before .before .spoken2 .ensures) (c .before .before .before .before .ninth .ensures) (c .before .free2 .ensures) (c .before .before .before .line2 .ensures) refl (c .said2 .ensures), at .inv .1)
 
-either-holds-requires : tie.Need-either-holds-requires Inv-loop μ-loop
-either-holds-requires c κs = search needs
+enum-told-4 : tie.Need-enum-told-4 Inv-loop μ-loop
+enum-told-4 c = search needs
 
-pick-requires : tie.Need-pick-requires Inv-loop μ-loop
-pick-requires c κs = search needs
+empty-requires : tie.Need-empty-requires Inv-loop μ-loop
+empty-requires c κs = search needs
 
-said-requires-13 : tie.Need-said-requires-13 Inv-loop μ-loop
-said-requires-13 c κs = c .before .before .before .before .before .before .before .before .before .before .before .loop .inv .0 .small
+sub-started : tie.Need-sub-started Inv-loop μ-loop
+sub-started c =
+    let k = comes-start _ _ _ (sym (c .before .before .before .before .before .turn-of .ensures) ∙ c .before .before .before .enum-told4 .given .1) in
+    omega (arith, k .soon)
 
-slice-write-row-13 : tie.Need-slice-write-row-13 Inv-loop μ-loop
-slice-write-row-13 c =
-    let g = c .before .before .before .before .before .before .before .before .before .before .before .before .loop .inv .0 in
-    omega (arith, c .before .before .before .before .before .before .before .before .before .before .before .loop-test .taken, g .wide, g .goes .long)
+started-requires : tie.Need-started-requires Inv-loop μ-loop
+started-requires c κs = search needs
 
-add-i-13 : tie.Need-add-i-13 Inv-loop μ-loop
-add-i-13 c = omega (arith, c .before .before .before .before .before .before .before .before .before .before .before .loop-test .taken, c .before .before .before .before .before .before .before .before .before .before .before .before .before .before .before .before .before .before .before .before .before .before .before .before .before .before .before .before .before .before .before .before .before .before .good .1 .1 .0 .0)
+start-requires : tie.Need-start-requires Inv-loop μ-loop
+start-requires c κs = search needs
 
-loop-less-14 : tie.Need-loop-less-14 Inv-loop μ-loop
-loop-less-14 c = omega (arith, c .before .before .before .before .before .before .before .before .before .before .before .loop-test .taken)
+rest-requires : tie.Need-rest-requires Inv-loop μ-loop
+rest-requires c κs = search needs
 
-loop-again-14 : tie.Need-loop-again-14 Inv-loop μ-loop
-loop-again-14 c =
-    let g = seen (c .before .before .before .before) in
-    let at = c .before .before .before .before .before .before .before .before .before .before .before .before .loop in
-    let s = c .before .before .before .before .before .before .before .before .before .before .before .before .before .before .before .before .before .before .before .before .before .before .before .before .before .before .before .before .before .before .before .before .before .before .args .s in
-    (rw (c .before .pick .ensures, c .before .before .either-holds .ensures) (turned g _ _ _ _ _ _ _ (low-seen _ _ _ _ _ _ _ _ (c .before .before .before .if5 .left)) (quiet-acts s _ _ _ _ _ _ _ _ _) (g .stands .calms) (c .said13 .ensures)), at .inv .1, at .inv .2, at .inv .3)
+free-requires-3 : tie.Need-free-requires-3 Inv-loop μ-loop
+free-requires-3 c κs = search needs
+
+said-requires-3 : tie.Need-said-requires-3 Inv-loop μ-loop
+said-requires-3 c κs = c .before .before .before .before .before .before .before .before .before .before .before .before .before .before .before .before .before .before .before .base-of .ensures .1
+
+slice-write-row-3 : tie.Need-slice-write-row-3 Inv-loop μ-loop
+slice-write-row-3 c =
+    let inv = c .before .before .before .before .before .before .before .before .before .before .before .before .before .before .before .loop .inv .0 in
+    omega (arith, c .before .before .before .before .before .before .before .before .before .before .before .before .before .before .loop-test .taken, inv .wide, inv .goes .long)
+
+add-i-3 : tie.Need-add-i-3 Inv-loop μ-loop
+add-i-3 c = omega (arith, c .before .before .before .before .before .before .before .before .before .before .before .before .before .before .loop-test .taken, c .before .before .before .before .before .before .before .before .before .before .before .before .before .before .before .before .before .before .before .before .before .before .before .before .before .before .before .before .before .good .1 .1 .0 .0)
+
+loop-less-4 : tie.Need-loop-less-4 Inv-loop μ-loop
+loop-less-4 c = omega (arith, c .before .before .before .before .before .before .before .before .before .before .before .before .before .before .loop-test .taken)
+
+loop-again-4 : tie.Need-loop-again-4 Inv-loop μ-loop
+loop-again-4 c =
+    let at = c .before .before .before .before .before .before .before .before .before .before .before .before .before .before .before .loop in
+    let k = comes-start _ _ _ (sym (c .before .before .before .before .before .before .before .before .before .before .before .turn-of .ensures) ∙ c .before .before .before .before .before .before .before .before .before .enum-told4 .given .1) in
+    let e = emptied (c .before .before .before .before .before .before .before .before) in
+    (start-turn (at .inv .0) (c .before .before .before .before .before .before .before .before .before .before .before .before .before .before .loop-test .taken) _ _ _ _ _ _ _ k refl (c .before .before .before .before .before .started .ensures) (c .before .before .before .start .ensures) e (c .before .free3 .ensures) (c .before .before .rest .ensures) (c .said3 .ensures), λ h. e)
+
+enum-told-5 : tie.Need-enum-told-5 Inv-loop μ-loop
+enum-told-5 c = search needs
+
+end-requires : tie.Need-end-requires Inv-loop μ-loop
+end-requires c κs = search needs
+
+rest-requires-2 : tie.Need-rest-requires-2 Inv-loop μ-loop
+rest-requires-2 c κs = search needs
+
+sub-free-3 : tie.Need-sub-free-3 Inv-loop μ-loop
+sub-free-3 c =
+    let k = comes-stop _ _ _ (sym (c .before .before .before .before .before .before .before .before .turn-of .ensures) ∙ c .before .before .before .before .before .before .enum-told5 .given .1) in
+    omega (arith, k .soon)
+
+free-requires-4 : tie.Need-free-requires-4 Inv-loop μ-loop
+free-requires-4 c κs = search needs
+
+said-requires-4 : tie.Need-said-requires-4 Inv-loop μ-loop
+said-requires-4 c κs = c .before .before .before .before .before .before .before .before .before .before .before .before .before .before .before .before .before .before .base-of .ensures .1
+
+slice-write-row-4 : tie.Need-slice-write-row-4 Inv-loop μ-loop
+slice-write-row-4 c =
+    let inv = c .before .before .before .before .before .before .before .before .before .before .before .before .before .before .loop .inv .0 in
+    omega (arith, c .before .before .before .before .before .before .before .before .before .before .before .before .before .loop-test .taken, inv .wide, inv .goes .long)
+
+add-i-4 : tie.Need-add-i-4 Inv-loop μ-loop
+add-i-4 c = omega (arith, c .before .before .before .before .before .before .before .before .before .before .before .before .before .loop-test .taken, c .before .before .before .before .before .before .before .before .before .before .before .before .before .before .before .before .before .before .before .before .before .before .before .before .before .before .before .before .good .1 .1 .0 .0)
+
+loop-less-5 : tie.Need-loop-less-5 Inv-loop μ-loop
+loop-less-5 c = omega (arith, c .before .before .before .before .before .before .before .before .before .before .before .before .before .loop-test .taken)
+
+loop-again-5 : tie.Need-loop-again-5 Inv-loop μ-loop
+loop-again-5 c =
+    let at = c .before .before .before .before .before .before .before .before .before .before .before .before .before .before .loop in
+    let k = comes-stop _ _ _ (sym (c .before .before .before .before .before .before .before .before .before .before .turn-of .ensures) ∙ c .before .before .before .before .before .before .before .before .enum-told5 .given .1) in
+    let n = neither-but _ _ (c .before .before .before .before .before .if4 .left) in
+    (stop-turn (at .inv .0) (c .before .before .before .before .before .before .before .before .before .before .before .before .before .loop-test .taken) _ _ _ _ _ k (c .before .before .before .before .end .ensures) (n .0) (at .inv .1 (n .1)) (c .before .free4 .ensures) (c .before .before .before .rest2 .ensures) refl (c .said4 .ensures), at .inv .1)
+
+enum-told-6 : tie.Need-enum-told-6 Inv-loop μ-loop
+enum-told-6 c = search needs
 
 stop-at-requires : tie.Need-stop-at-requires Inv-loop μ-loop
 stop-at-requires c κs = search needs
@@ -447,8 +300,8 @@ stop-at-requires c κs = search needs
 same-length : tie.Need-same-length Inv-loop μ-loop
 same-length c = c .before .before .loop .inv .0 .goes .long
 
-returns-3 : tie.Need-returns-3 Inv-loop μ-loop
-returns-3 c = rw (c .stop-at .ensures) (c .before .before .loop .inv .0 .goes)
+returns-2 : tie.Need-returns-2 Inv-loop μ-loop
+returns-2 c = rw (c .stop-at .ensures) (c .before .before .loop .inv .0 .goes)
 
 pub pass-spec : {M : Type 1} → statement M
 pass-spec =
@@ -457,108 +310,70 @@ pass-spec =
     Inv-loop
     μ-loop
     returns
-    returns-2
     kind-of-requires
-    loaded-requires
     base-of-requires
-    is-calm-requires
-    room-of-requires
+    times-of-requires
+    clocks-of-requires
     loop-holds
     mul-e
     shared-slice-read-e
     shared-slice-read-level
-    vcc-requires
-    sub-rest
-    scl-requires
+    turn-of-requires
+    enum-told
+    sends-requires
+    pass-requires
+    loop-less
+    loop-again
+    enum-told-2
+    spoken-requires
+    push-requires
+    fills-requires
+    cast-index
+    element-write-load
+    element-write-load-2
+    byte-requires
     line-requires
-    same-requires
+    sub-free
+    free-requires
     said-requires
     slice-write-row
     add-i
-    loop-less
-    loop-again
+    loop-less-2
+    loop-again-2
+    enum-told-3
+    spoken-requires-2
+    ninth-requires
+    line-requires-2
+    sub-free-2
+    free-requires-2
     said-requires-2
     slice-write-row-2
     add-i-2
-    loop-less-2
-    loop-again-2
-    sub-less
-    less-requires
-    start-phase-requires
-    room-of-requires-2
     loop-less-3
     loop-again-3
-    way-of-requires
-    push-requires
-    add-bits
+    enum-told-4
+    empty-requires
+    sub-started
+    started-requires
+    start-requires
+    rest-requires
+    free-requires-3
     said-requires-3
     slice-write-row-3
     add-i-3
     loop-less-4
     loop-again-4
-    shifted-requires
-    top-requires
+    enum-told-5
+    end-requires
+    rest-requires-2
+    sub-free-3
+    free-requires-4
     said-requires-4
     slice-write-row-4
     add-i-4
     loop-less-5
     loop-again-5
-    push-requires-2
-    said-requires-5
-    slice-write-row-5
-    add-i-5
-    loop-less-6
-    loop-again-6
-    said-requires-6
-    slice-write-row-6
-    add-i-6
-    loop-less-7
-    loop-again-7
-    takes-requires
-    cast-index
-    element-write-load
-    element-write-load-2
-    next-in-page-requires
-    said-requires-7
-    slice-write-row-7
-    add-i-7
-    loop-less-8
-    loop-again-8
-    said-requires-8
-    slice-write-row-8
-    add-i-8
-    loop-less-9
-    loop-again-9
-    said-requires-9
-    slice-write-row-9
-    add-i-9
-    loop-less-10
-    loop-again-10
-    said-requires-10
-    slice-write-row-10
-    add-i-10
-    loop-less-11
-    loop-again-11
-    fetched-requires
-    top-requires-2
-    next-in-array-requires
-    said-requires-11
-    slice-write-row-11
-    add-i-11
-    loop-less-12
-    loop-again-12
-    said-requires-12
-    slice-write-row-12
-    add-i-12
-    loop-less-13
-    loop-again-13
-    either-holds-requires
-    pick-requires
-    said-requires-13
-    slice-write-row-13
-    add-i-13
-    loop-less-14
-    loop-again-14
+    enum-told-6
     stop-at-requires
     same-length
-    returns-3)
+    returns-2)

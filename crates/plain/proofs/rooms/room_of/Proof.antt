@@ -1,7 +1,7 @@
 -- `plain::rooms::room_of` meets its contract.
 use native.Mathlib.Omega.{arith}
-use Rattle.plain.proofs.Empty.{never}
 use mathlib.Core.Path.{sym, _∙_}
+use Rattle.plain.proofs.Seeing.{never}
 use borrow.Author.Needs.{needs}
 use Rattle.plain.proofs.rooms.room_of.Statement.{statement}
 use Rattle.plain.proofs.rooms.room_of.Tie as tie

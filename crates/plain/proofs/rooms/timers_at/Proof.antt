@@ -1,7 +1,7 @@
--- `plain::moves::stop_at` meets its contract.
+-- `plain::rooms::timers_at` meets its contract.
 use borrow.Author.Needs.{needs}
-use Rattle.plain.proofs.moves.stop_at.Statement.{statement}
-use Rattle.plain.proofs.moves.stop_at.Tie as tie
+use Rattle.plain.proofs.rooms.timers_at.Statement.{statement}
+use Rattle.plain.proofs.rooms.timers_at.Tie as tie
 
 less-requires : tie.Need-less-requires
 less-requires c κs = search needs
@@ -15,5 +15,5 @@ left-of-requires c κs = search needs
 returns : tie.Need-returns
 returns c = rw (c .left-of .ensures, c .before .less2 .ensures, c .before .before .less .ensures)
 
-pub stop-at-spec : {M : Type 1} → statement M
-stop-at-spec = tie.close (tie.spec less-requires less-requires-2 left-of-requires returns)
+pub timers-at-spec : {M : Type 1} → statement M
+timers-at-spec = tie.close (tie.spec less-requires less-requires-2 left-of-requires returns)
