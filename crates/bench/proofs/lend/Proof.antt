@@ -1,6 +1,7 @@
 -- `bench::lend` is safe: each part that is lent lies within its buffer.
 use mathlib.Core.Path.{sym}
 use lib.Seq.{length-take-le}
+use Rattle.texts.proofs.Fitting.{fits-all}
 use borrow.Author.Needs.{needs}
 use Rattle.bench.proofs.lend.Statement.{statement}
 use Rattle.bench.proofs.lend.Tie as tie
@@ -20,50 +21,43 @@ cast-answers-length c = search needs
 mul-raw-length : tie.Need-mul-raw-length
 mul-raw-length c = search needs
 
-returns : tie.Need-returns
-returns c = search needs
-
-returns-2 : tie.Need-returns-2
-returns-2 c = search needs
-
-returns-3 : tie.Need-returns-3
-returns-3 c = search needs
-
-returns-4 : tie.Need-returns-4
-returns-4 c = search needs
-
-returns-5 : tie.Need-returns-5
-returns-5 c = search needs
+fits-requires : tie.Need-fits-requires
+fits-requires c κs = search needs
 
 slice-relend-prefix-reply : tie.Need-slice-relend-prefix-reply
-slice-relend-prefix-reply c = search needs
+slice-relend-prefix-reply c = fits-all _ _ (c .before .fits2 .ensures) (c .if1 .taken) .array
 
 slice-aggregate-reply : tie.Need-slice-aggregate-reply
-slice-aggregate-reply c = sym (length-take-le _ _ (c .before .before .before .before .before .if1 .left))
+slice-aggregate-reply c =
+    sym (length-take-le _ _ (fits-all _ _ (c .before .before .fits2 .ensures) (c .before .if1 .taken) .array))
 
 slice-relend-prefix-reply-2 : tie.Need-slice-relend-prefix-reply-2
-slice-relend-prefix-reply-2 c = search needs
+slice-relend-prefix-reply-2 c = fits-all _ _ (c .before .before .fits2 .ensures) (c .before .if1 .taken) .raw
 
 slice-aggregate-reply-2 : tie.Need-slice-aggregate-reply-2
-slice-aggregate-reply-2 c = sym (length-take-le _ _ (c .before .before .before .before .before .if2 .left))
+slice-aggregate-reply-2 c =
+    sym (length-take-le _ _ (fits-all _ _ (c .before .before .before .fits2 .ensures) (c .before .before .if1 .taken) .raw))
 
 slice-relend-prefix-reply-3 : tie.Need-slice-relend-prefix-reply-3
-slice-relend-prefix-reply-3 c = search needs
+slice-relend-prefix-reply-3 c = fits-all _ _ (c .before .before .before .fits2 .ensures) (c .before .before .if1 .taken) .elapsed
 
 slice-aggregate-reply-3 : tie.Need-slice-aggregate-reply-3
-slice-aggregate-reply-3 c = sym (length-take-le _ _ (c .before .before .before .before .before .if3 .left))
+slice-aggregate-reply-3 c =
+    sym (length-take-le _ _ (fits-all _ _ (c .before .before .before .before .fits2 .ensures) (c .before .before .before .if1 .taken) .elapsed))
 
 slice-relend-prefix-reply-4 : tie.Need-slice-relend-prefix-reply-4
-slice-relend-prefix-reply-4 c = search needs
+slice-relend-prefix-reply-4 c = fits-all _ _ (c .before .before .before .before .fits2 .ensures) (c .before .before .before .if1 .taken) .levels
 
 slice-aggregate-reply-4 : tie.Need-slice-aggregate-reply-4
-slice-aggregate-reply-4 c = sym (length-take-le _ _ (c .before .before .before .before .before .if4 .left))
+slice-aggregate-reply-4 c =
+    sym (length-take-le _ _ (fits-all _ _ (c .before .before .before .before .before .fits2 .ensures) (c .before .before .before .before .if1 .taken) .levels))
 
 slice-relend-prefix-reply-5 : tie.Need-slice-relend-prefix-reply-5
-slice-relend-prefix-reply-5 c = search needs
+slice-relend-prefix-reply-5 c = fits-all _ _ (c .before .before .before .before .before .fits2 .ensures) (c .before .before .before .before .if1 .taken) .answers
 
 slice-aggregate-reply-5 : tie.Need-slice-aggregate-reply-5
-slice-aggregate-reply-5 c = sym (length-take-le _ _ (c .before .before .before .before .before .if5 .left))
+slice-aggregate-reply-5 c =
+    sym (length-take-le _ _ (fits-all _ _ (c .before .before .before .before .before .before .fits2 .ensures) (c .before .before .before .before .before .if1 .taken) .answers))
 
 reply-requires : tie.Need-reply-requires
 reply-requires c κs = search needs
@@ -83,8 +77,11 @@ same-length-4 c = search needs
 same-length-5 : tie.Need-same-length-5
 same-length-5 c = search needs
 
-returns-6 : tie.Need-returns-6
-returns-6 c = search needs
+returns : tie.Need-returns
+returns c = search needs
+
+returns-2 : tie.Need-returns-2
+returns-2 c = search needs
 
 pub lend-spec : {M : Type 1} → statement M
 lend-spec =
@@ -95,11 +92,7 @@ lend-spec =
     cast-levels-length
     cast-answers-length
     mul-raw-length
-    returns
-    returns-2
-    returns-3
-    returns-4
-    returns-5
+    fits-requires
     slice-relend-prefix-reply
     slice-aggregate-reply
     slice-relend-prefix-reply-2
@@ -116,4 +109,5 @@ lend-spec =
     same-length-3
     same-length-4
     same-length-5
-    returns-6)
+    returns
+    returns-2)
