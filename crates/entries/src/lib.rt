@@ -6,9 +6,8 @@ use ground::cases;
 use part::state::Phase;
 use wire::Sign;
 ghost use mathlib.Core.Path.{_≡_};
-ghost use mathlib.Core.List.{List, [], _∷_};
+ghost use mathlib.Core.List.{[], _∷_};
 ghost use Prim.Native.Nat.{_<_};
-ghost use lib.ListN.{length};
 ghost use Rattle.entries.specs.Entries.{roleOf, packedOf, numberOf, saidBy, edgeBy, Says};
 
 // What a sample can say: a start or a stop with the bits of a byte that it cuts off, a byte at its
