@@ -6,9 +6,8 @@ use ground::cases;
 use part::state::Phase;
 use wire::Sign;
 ghost use mathlib.Core.Path.{_≡_};
-ghost use mathlib.Core.List.{List, [], _∷_};
+ghost use mathlib.Core.List.{[], _∷_};
 ghost use Prim.Native.Nat.{_<_};
-ghost use lib.ListN.{length};
 ghost use Rattle.entries.specs.Entries.{roleOf, packedOf, numberOf, saidBy, edgeBy, Says};
 
 // What a sample can say: a start or a stop with the bits of a byte that it cuts off, a byte at its
@@ -19,7 +18,7 @@ pub enum Entry {
     Start(u8),
     Stop(u8),
     Byte(Phase, u8),
-    Ninth(bool, bool),
+    Ninth { line: bool, own: bool },
     CycleBegins,
     CycleEnds,
     ResetBegins,
@@ -61,7 +60,7 @@ fn number(place: usize, entry: Entry) -> u32
         Entry::Start(bits) => packed(place, tags::START, bits),
         Entry::Stop(bits) => packed(place, tags::STOP, bits),
         Entry::Byte(phase, value) => packed(place, role(phase), value),
-        Entry::Ninth(line, own) => packed(
+        Entry::Ninth { line, own } => packed(
             place,
             tags::NINTH,
             cases::worth(line, 1) + cases::worth(own, 2),
@@ -130,6 +129,6 @@ pub fn put_sign(
         Sign::Stop(n) => put(Entry::Stop(n), place, entries, at),
         Sign::Bit => at,
         Sign::Byte(v) => put(Entry::Byte(phase, v), place, entries, at),
-        Sign::Ninth(b) => put(Entry::Ninth(b, own), place, entries, at),
+        Sign::Ninth(b) => put(Entry::Ninth { line: b, own }, place, entries, at),
     }
 }

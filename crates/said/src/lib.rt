@@ -2,7 +2,6 @@
 use entries::Entry;
 use part::state::State;
 use sample::answers;
-ghost use mathlib.Core.Path.{_≡_};
 ghost use Prim.Native.Nat.{_+_, _<_, _≤_};
 ghost use Rattle.entries.specs.Entries.{Says};
 ghost use Rattle.sample.specs.Sample.{signIn, seenBy};

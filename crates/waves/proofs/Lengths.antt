@@ -1,12 +1,10 @@
 -- How many samples the waveforms have: three a bit, 27 a byte. Assumes nothing.
 use Prim.Native.Nat.{ℕ, zero, suc, _+_, _*_}
-use mathlib.Core.Bool.{Bool, true, false}
-use mathlib.Core.List.{List, [], _∷_, _++_}
-use mathlib.Core.Path.{_≡_, refl, _∙_}
+use mathlib.Core.List.{List, [], _∷_}
+use mathlib.Core.Path.{_≡_, refl}
 use native.Mathlib.Omega.{arith}
 use lib.ListN.{length, length-append, length-replicate}
-use Rattle.waves.specs.Waves.{start, again, stop, clocks, sent, allSent, read, allRead, slaveByte, addressed}
-use Rattle.waves.specs.Waves.{pageWrite, registerWrite, readFrom, currentRead, brisk}
+use Rattle.waves.specs.Waves.{stop, clocks, allSent, allRead, pageWrite, registerWrite, readFrom, currentRead, brisk}
 
 -- A capture made of levels has as many times as levels.
 pub brisk-rows : (ls : List ℕ) → (length (brisk ls .times) ≡ length ls) × (brisk ls .levels ≡ ls)

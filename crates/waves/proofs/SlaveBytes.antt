@@ -1,10 +1,10 @@
 -- What a slave byte holds: its five leading bits, the select and whether it asks for a read. Assumes nothing.
-use Prim.Native.Nat.{ℕ, _+_, _*_, _/_, _%_, _<_, _≤_}
+use Prim.Native.Nat.{ℕ, _/_, _%_, _<_, _≤_}
 use mathlib.Core.Bool.{Bool, true, false}
-use mathlib.Core.Path.{_≡_, refl}
+use mathlib.Core.Path.{_≡_}
 use native.Mathlib.Omega.{arith}
 use borrow.Author.Tests.{eq-eqb, ne-eqb}
-use Rattle.ground.specs.Cases.{orZero, odd, middle}
+use Rattle.ground.specs.Cases.{odd, middle}
 use Rattle.ground.specs.Numbers.{mostSelect, slaveCode, byteValues}
 use Rattle.waves.specs.Waves.{slaveByte}
 

@@ -1,6 +1,6 @@
 -- `transfers::list` meets its contract: what is left to list and to run from here gives what the whole gives, and a sample says at most
 -- four entries, so that their count fits.
-use Prim.Native.Nat.{ℕ, _+_, _*_, _-_, _<_, _≤_}
+use Prim.Native.Nat.{_+_, _*_, _-_, _<_, _≤_}
 use mathlib.Core.Path.{_≡_, refl, sym, _∙_, ap}
 use native.Mathlib.Omega.{arith}
 use native.Mathlib.Numerals.{add-one}
