@@ -1,6 +1,7 @@
 -- `show::lend` is safe: each part that is lent lies within its buffer.
 use mathlib.Core.Path.{sym}
 use lib.Seq.{length-take-le}
+use Rattle.texts.proofs.Fitting.{fits-all}
 use borrow.Author.Needs.{needs}
 use Rattle.show.proofs.lend.Statement.{statement}
 use Rattle.show.proofs.lend.Tie as tie
@@ -23,50 +24,44 @@ mul-raw-length c = search needs
 returns : tie.Need-returns
 returns c = search needs
 
-returns-2 : tie.Need-returns-2
-returns-2 c = search needs
-
-returns-3 : tie.Need-returns-3
-returns-3 c = search needs
-
-returns-4 : tie.Need-returns-4
-returns-4 c = search needs
-
-returns-5 : tie.Need-returns-5
-returns-5 c = search needs
-
-returns-6 : tie.Need-returns-6
-returns-6 c = search needs
+fits-requires : tie.Need-fits-requires
+fits-requires c κs = search needs
 
 slice-relend-prefix-show-rows : tie.Need-slice-relend-prefix-show-rows
-slice-relend-prefix-show-rows c = search needs
+slice-relend-prefix-show-rows c = fits-all _ _ (c .before .fits2 .ensures) (c .if2 .taken) .array
 
 slice-aggregate-show-rows : tie.Need-slice-aggregate-show-rows
-slice-aggregate-show-rows c = sym (length-take-le _ _ (c .before .before .before .before .before .before .if1 .left))
+slice-aggregate-show-rows c =
+    sym (length-take-le _ _ (fits-all _ _ (c .before .before .fits2 .ensures) (c .before .if2 .taken) .array))
 
 slice-relend-prefix-show-rows-2 : tie.Need-slice-relend-prefix-show-rows-2
-slice-relend-prefix-show-rows-2 c = search needs
+slice-relend-prefix-show-rows-2 c = fits-all _ _ (c .before .before .before .fits2 .ensures) (c .before .before .if2 .taken) .raw
 
 slice-aggregate-show-rows-2 : tie.Need-slice-aggregate-show-rows-2
-slice-aggregate-show-rows-2 c = sym (length-take-le _ _ (c .before .before .before .before .before .before .if3 .left))
+slice-aggregate-show-rows-2 c =
+    sym (length-take-le _ _ (fits-all _ _ (c .before .before .before .before .fits2 .ensures) (c .before .before .before .if2 .taken) .raw))
 
 slice-relend-prefix-show-rows-3 : tie.Need-slice-relend-prefix-show-rows-3
-slice-relend-prefix-show-rows-3 c = search needs
+slice-relend-prefix-show-rows-3 c = fits-all _ _ (c .before .before .before .before .fits2 .ensures) (c .before .before .before .if2 .taken) .elapsed
 
 slice-aggregate-show-rows-3 : tie.Need-slice-aggregate-show-rows-3
-slice-aggregate-show-rows-3 c = sym (length-take-le _ _ (c .before .before .before .before .before .before .if4 .left))
+slice-aggregate-show-rows-3 c =
+    sym (length-take-le _ _ (fits-all _ _ (c .before .before .before .before .before .fits2 .ensures) (c .before .before .before .before .if2 .taken) .elapsed))
 
 slice-relend-prefix-show-rows-4 : tie.Need-slice-relend-prefix-show-rows-4
-slice-relend-prefix-show-rows-4 c = search needs
+slice-relend-prefix-show-rows-4 c = fits-all _ _ (c .before .before .before .before .before .fits2 .ensures) (c .before .before .before .before .if2 .taken) .levels
 
 slice-aggregate-show-rows-4 : tie.Need-slice-aggregate-show-rows-4
-slice-aggregate-show-rows-4 c = sym (length-take-le _ _ (c .before .before .before .before .before .before .if5 .left))
+slice-aggregate-show-rows-4 c =
+    sym (length-take-le _ _ (fits-all _ _ (c .before .before .before .before .before .before .fits2 .ensures) (c .before .before .before .before .before .if2 .taken) .levels))
 
 slice-aggregate-show-rows-5 : tie.Need-slice-aggregate-show-rows-5
-slice-aggregate-show-rows-5 c = sym (length-take-le _ _ (c .before .before .before .before .before .before .if6 .left))
+slice-aggregate-show-rows-5 c =
+    sym (length-take-le _ _ (fits-all _ _ (c .before .before .before .before .before .before .before .fits2 .ensures) (c .before .before .before .before .before .before .if2 .taken) .answers))
 
 show-rows-requires : tie.Need-show-rows-requires
-show-rows-requires c κs = rw (length-take-le _ _ (c .before .before .before .before .before .before .before .before .before .before .before .before .if1 .left)) (c .before .before .before .before .before .before .before .before .before .before .before .if2 .left)
+show-rows-requires c κs =
+    rw (length-take-le _ _ (fits-all _ _ (c .before .before .before .before .before .before .before .before .fits2 .ensures) (c .before .before .before .before .before .before .before .if2 .taken) .array)) (c .before .before .before .before .before .before .before .before .before .if1 .left)
 
 same-length : tie.Need-same-length
 same-length c = search needs
@@ -86,8 +81,11 @@ same-length-5 c = search needs
 same-length-6 : tie.Need-same-length-6
 same-length-6 c = search needs
 
-returns-7 : tie.Need-returns-7
-returns-7 c = search needs
+returns-2 : tie.Need-returns-2
+returns-2 c = search needs
+
+returns-3 : tie.Need-returns-3
+returns-3 c = search needs
 
 pub lend-spec : {M : Type 1} → statement M
 lend-spec =
@@ -99,11 +97,7 @@ lend-spec =
     cast-answers-length
     mul-raw-length
     returns
-    returns-2
-    returns-3
-    returns-4
-    returns-5
-    returns-6
+    fits-requires
     slice-relend-prefix-show-rows
     slice-aggregate-show-rows
     slice-relend-prefix-show-rows-2
@@ -120,4 +114,5 @@ lend-spec =
     same-length-4
     same-length-5
     same-length-6
-    returns-7)
+    returns-2
+    returns-3)
