@@ -10,25 +10,32 @@ use Rattle.part.specs.declared.state.Phase.{Phase}
 use Rattle.part.specs.declared.state.Phase.the-variants.{Idle, Silent, Slave, High, Low, Data, Register, Send, SendRegister}
 use Rattle.wire.specs.declared.Sign.{Sign}
 use Rattle.wire.specs.declared.Sign.the-variants as sign
+use Rattle.entries.specs.declared.Told.{Told}
+use Rattle.entries.specs.declared.Told.the-variants.{Nothing, One}
 use Rattle.entries.specs.declared.Entry.{Entry}
 use Rattle.entries.specs.declared.Entry.the-variants.{Start, Stop, Byte, Ninth, CycleBegins, CycleEnds, ResetBegins, ResetEnds}
 
 -- What a sign says, by the phase that a byte met, the part's own SDA level at a ninth bit, and the bits committed before a start
 -- (State and time, 4; Bytes on the wire, acknowledged from the eighth fall to the ninth).
-abbrev pub saidBy : Sign → Phase → Bool → ℕ → List Entry
-saidBy sign.Quiet p own bits = []
-saidBy sign.Start p own bits = Start bits ∷ []
-saidBy (sign.Stop n) p own bits = Stop n ∷ []
-saidBy sign.Bit p own bits = []
-saidBy (sign.Byte v) p own bits = Byte p v ∷ []
-saidBy (sign.Ninth b) p own bits = Ninth b own ∷ []
+abbrev pub saidBy : Sign → Phase → Bool → ℕ → Told
+saidBy sign.Quiet p own bits = Nothing
+saidBy sign.Start p own bits = One (Start bits)
+saidBy (sign.Stop n) p own bits = One (Stop n)
+saidBy sign.Bit p own bits = Nothing
+saidBy (sign.Byte v) p own bits = One (Byte p v)
+saidBy (sign.Ninth b) p own bits = One (Ninth b own)
 
 -- What is said where something began or ended, by whether it was and is (State and time, 1 and 2; Bytes on the wire, stop).
-abbrev pub edgeBy : Bool → Bool → Entry → Entry → List Entry
-edgeBy true true begins ends = []
-edgeBy true false begins ends = ends ∷ []
-edgeBy false true begins ends = begins ∷ []
-edgeBy false false begins ends = []
+abbrev pub edgeBy : Bool → Bool → Entry → Entry → Told
+edgeBy true true begins ends = Nothing
+edgeBy true false begins ends = One ends
+edgeBy false true begins ends = One begins
+edgeBy false false begins ends = Nothing
+
+-- What is said as a list: nothing, or one entry.
+abbrev pub toldOf : Told → List Entry
+toldOf Nothing = []
+toldOf (One x) = x ∷ []
 
 -- An entry with the place of its sample (Refusal numbers, place: sample).
 pub record Placed : Type 0 where

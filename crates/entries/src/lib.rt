@@ -6,9 +6,8 @@ use ground::cases;
 use part::state::Phase;
 use wire::Sign;
 ghost use mathlib.Core.Path.{_≡_};
-ghost use mathlib.Core.List.{[], _∷_};
 ghost use Prim.Native.Nat.{_<_};
-ghost use Rattle.entries.specs.Entries.{roleOf, packedOf, numberOf, saidBy, edgeBy, Says};
+ghost use Rattle.entries.specs.Entries.{roleOf, packedOf, numberOf, toldOf, saidBy, edgeBy, Says};
 
 // What a sample can say: a start or a stop with the bits of a byte that it cuts off, a byte at its
 // eighth fall with the phase that it met, the ninth bit as it stood on the line with the part's own
@@ -23,6 +22,12 @@ pub enum Entry {
     CycleEnds,
     ResetBegins,
     ResetEnds,
+}
+
+// An entry, or nothing to say.
+pub enum Told {
+    Nothing,
+    One(Entry),
 }
 
 // The role of a byte by the phase that it met.
@@ -53,7 +58,7 @@ fn packed(place: usize, tag: u8, value: u8) -> u32
 }
 
 // An entry and its place as one number.
-fn number(place: usize, entry: Entry) -> u32
+fn number_of(place: usize, entry: Entry) -> u32
     ensures { λ r. ⌜ r ≡ numberOf (record { place = place; entry = entry }) ⌝ }
 {
     match entry {
@@ -72,63 +77,48 @@ fn number(place: usize, entry: Entry) -> u32
     }
 }
 
-// Lays an entry over the row at a place, if there is room, and answers the place after it.
-pub fn put(entry: Entry, place: usize, entries: &mut [u32], at: usize) -> usize
-    requires { ⌜ at < 18446744073709551615 ⌝ }
-    ensures { λ r. ⌜ Says 1 place (entry ∷ []) at (now (entries .entry)) r (now (entries .exit)) ⌝ }
-{
-    let told = number(place, entry);
-    if at < entries.len() {
-        entries[at] = told;
-        return at + 1;
-    }
-    at + 1
-}
-
 // What is said where something began or ended, by whether it was and is.
-pub fn put_edge(
-    was: bool,
-    is: bool,
-    begins: Entry,
-    ends: Entry,
-    place: usize,
-    entries: &mut [u32],
-    at: usize,
-) -> usize
-    requires { ⌜ at < 18446744073709551615 ⌝ }
-    ensures { λ r. ⌜ Says 1 place (edgeBy was is begins ends) at (now (entries .entry)) r (now (entries .exit)) ⌝ }
+pub fn edge(was: bool, is: bool, begins: Entry, ends: Entry) -> Told
+    ensures { λ r. ⌜ r ≡ edgeBy was is begins ends ⌝ }
 {
     if was {
         if is {
-            return at;
+            return Told::Nothing;
         }
-        return put(ends, place, entries, at);
+        return Told::One(ends);
     }
     if is {
-        return put(begins, place, entries, at);
+        return Told::One(begins);
     }
-    at
+    Told::Nothing
 }
 
 // What a sign says, with the phase and the own level that it met and the bits committed before it.
-pub fn put_sign(
-    sign: Sign,
-    phase: Phase,
-    own: bool,
-    bits: u8,
-    place: usize,
-    entries: &mut [u32],
-    at: usize,
-) -> usize
-    requires { ⌜ at < 18446744073709551615 ⌝ }
-    ensures { λ r. ⌜ Says 1 place (saidBy sign phase own bits) at (now (entries .entry)) r (now (entries .exit)) ⌝ }
+pub fn say(sign: Sign, phase: Phase, own: bool, bits: u8) -> Told
+    ensures { λ r. ⌜ r ≡ saidBy sign phase own bits ⌝ }
 {
     match sign {
-        Sign::Quiet => at,
-        Sign::Start => put(Entry::Start(bits), place, entries, at),
-        Sign::Stop(n) => put(Entry::Stop(n), place, entries, at),
-        Sign::Bit => at,
-        Sign::Byte(v) => put(Entry::Byte(phase, v), place, entries, at),
-        Sign::Ninth(b) => put(Entry::Ninth { line: b, own }, place, entries, at),
+        Sign::Quiet => Told::Nothing,
+        Sign::Start => Told::One(Entry::Start(bits)),
+        Sign::Stop(n) => Told::One(Entry::Stop(n)),
+        Sign::Bit => Told::Nothing,
+        Sign::Byte(v) => Told::One(Entry::Byte(phase, v)),
+        Sign::Ninth(b) => Told::One(Entry::Ninth { line: b, own }),
     }
+}
+
+// Lays what is said over the row at a place, if there is room, and answers the place after it.
+pub fn put(told: Told, place: usize, entries: &mut [u32], at: usize) -> usize
+    requires { ⌜ at < 18446744073709551615 ⌝ }
+    ensures { λ r. ⌜ Says 1 place (toldOf told) at (now (entries .entry)) r (now (entries .exit)) ⌝ }
+{
+    let Told::One(entry) = told else {
+        return at;
+    };
+    let number = number_of(place, entry);
+    if at < entries.len() {
+        entries[at] = number;
+        return at + 1;
+    }
+    at + 1
 }

@@ -1,26 +1,20 @@
 // What one sample says, as entries: its sign, and where reset and a write cycle begin and end.
 use entries::Entry;
+use entries::Told;
 use part::state::State;
 use sample::answers;
-ghost use Prim.Native.Nat.{_+_, _<_, _≤_};
+ghost use mathlib.Core.Path.{_≡_};
+ghost use Prim.Native.Nat.{_+_, _≤_};
 ghost use Rattle.entries.specs.Entries.{Says};
 ghost use Rattle.sample.specs.Sample.{signIn, seenBy};
 ghost use Rattle.said.specs.Said.{heardIn, sampleSays};
 
-// The sign of a sample as the state before it met it; none while reset is active.
-fn put_heard(
-    reset: bool,
-    level: u8,
-    before: State,
-    place: usize,
-    entries: &mut [u32],
-    at: usize,
-) -> usize
-    requires { ⌜ at < 18446744073709551615 ⌝ }
-    ensures { λ r. ⌜ Says 1 place (heardIn (seenBy reset (signIn level before)) before) at (now (entries .entry)) r (now (entries .exit)) ⌝ }
+// What the sign of a sample says, as the state before it met it; nothing while reset is active.
+fn hear(reset: bool, level: u8, before: State) -> Told
+    ensures { λ r. ⌜ r ≡ heardIn (seenBy reset (signIn level before)) before ⌝ }
 {
     if reset {
-        return at;
+        return Told::Nothing;
     }
     let device = before.device;
     let talk = device.talk;
@@ -30,10 +24,10 @@ fn put_heard(
     let seen = wire::see(bus, answers::scl(level), sda);
     let sign = seen.sign;
     let phase = talk.phase;
-    entries::put_sign(sign, phase, talk.own, frame.bits, place, entries, at)
+    entries::say(sign, phase, talk.own, frame.bits)
 }
 
-// All that one sample says, from the states before and after it.
+// All that one sample says, from the states before and after it, laid over the row.
 pub fn put_sample(
     before: State,
     after: State,
@@ -51,32 +45,12 @@ pub fn put_sample(
     let wrote = 0 < was.write;
     let goes_on = elapsed < was.write;
     let writes = 0 < is.write;
-    let first = entries::put_edge(
-        was.reset,
-        is.reset,
-        Entry::ResetBegins,
-        Entry::ResetEnds,
-        place,
-        entries,
-        at,
-    );
-    let second = entries::put_edge(
-        wrote,
-        goes_on,
-        Entry::CycleBegins,
-        Entry::CycleEnds,
-        place,
-        entries,
-        first,
-    );
-    let third = put_heard(is.reset, level, before, place, entries, second);
-    entries::put_edge(
-        goes_on,
-        writes,
-        Entry::CycleBegins,
-        Entry::CycleEnds,
-        place,
-        entries,
-        third,
-    )
+    let reset = entries::edge(was.reset, is.reset, Entry::ResetBegins, Entry::ResetEnds);
+    let ended = entries::edge(wrote, goes_on, Entry::CycleBegins, Entry::CycleEnds);
+    let sign = hear(is.reset, level, before);
+    let begun = entries::edge(goes_on, writes, Entry::CycleBegins, Entry::CycleEnds);
+    let first = entries::put(reset, place, entries, at);
+    let second = entries::put(ended, place, entries, first);
+    let third = entries::put(sign, place, entries, second);
+    entries::put(begun, place, entries, third)
 }

@@ -1,10 +1,10 @@
--- `entries::number` meets its contract: an entry of each kind is packed with its tag and value.
+-- `entries::number_of` meets its contract: an entry of each kind is packed with its tag and value.
 use Rattle.entries.specs.Entries.{numberOf}
 use borrow.Author.Needs.{needs}
-use Rattle.entries.proofs.number.Statement.{statement}
-use Rattle.entries.proofs.number.Tie as tie
-use Rattle.entries.proofs.number.Reads as reads
-use Rattle.entries.proofs.number.Lts as lts
+use Rattle.entries.proofs.number_of.Statement.{statement}
+use Rattle.entries.proofs.number_of.Tie as tie
+use Rattle.entries.proofs.number_of.Reads as reads
+use Rattle.entries.proofs.number_of.Lts as lts
 use Rattle.ground.proofs.cases.worth.Reads as worth-reads
 use Rattle.entries.proofs.packed.Reads as packed-reads
 use Rattle.entries.proofs.role.Reads as role-reads
@@ -102,8 +102,8 @@ returns-8 : tie.Need-returns-8
 unfolding numberOf
 returns-8 c = rw (c .packed8 .ensures, c .before .enum-told4 .given .1)
 
-pub number-spec : {M : Type 1} → statement M
-number-spec =
+pub number-of-spec : {M : Type 1} → statement M
+number-of-spec =
     tie.close
     (tie.spec
     enum-known-entry
