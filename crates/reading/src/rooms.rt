@@ -2,6 +2,9 @@
 ghost use mathlib.Core.Path.{_≡_};
 ghost use lib.ListN.{length};
 
+// The longest row of levels, or of answers: one more than a capture may have samples.
+pub const ROW: usize = 65537;
+
 pub fn array_room() -> [u8; 16384]
     ensures { λ r. ⌜ 16384 ≡ length r ⌝ }
 {

@@ -16,57 +16,51 @@ ghost use Prim.Native.Nat.{_≤_};
 ghost use lib.ListN.{length};
 
 // One replay: its transfers, then what it changed in the array.
-fn show_once(
-    state: State,
-    elapsed: &[u32],
-    levels: &[u8],
-    array: &mut [u8],
-    before: &mut [u8],
-    entries: &mut [u32],
-) -> State
-    requires { ⌜ length (now array) ≤ length (now before) ⌝ }
+fn show_once(state: State, elapsed: &[u32], levels: &[u8], array: &mut [u8]) -> State
+    requires { ⌜ length (now array) ≤ 16384 ⌝ }
 {
-    bytes::copy(array, before);
-    let listed = transfers::list(state, elapsed, levels, array, entries);
-    printing::put_list(entries, listed.count);
-    changes::put_changes(before, array);
+    let mut before = rooms::array_room();
+    bytes::copy(array, &mut before);
+    let mut entries = rooms::entry_room();
+    let listed = transfers::list(state, elapsed, levels, array, &mut entries);
+    printing::put_list(&entries, listed.count);
+    changes::put_changes(&before, array);
     listed.state
 }
 
 // So many replays, each from the state and array that the one before left; 0 counts as 1.
-fn show_times(
-    times: u32,
-    state: State,
-    elapsed: &[u32],
-    levels: &[u8],
-    array: &mut [u8],
-    before: &mut [u8],
-    entries: &mut [u32],
-)
-    requires { ⌜ length (now array) ≤ length (now before) ⌝ }
+fn show_times(times: u32, state: State, elapsed: &[u32], levels: &[u8], array: &mut [u8])
+    requires { ⌜ length (now array) ≤ 16384 ⌝ }
 {
     printing::put_heading(1, times);
-    let mut now = show_once(state, elapsed, levels, array, before, entries);
+    let mut now = show_once(state, elapsed, levels, array);
     let mut done = 1;
     while done < times {
         done += 1;
         printing::put_heading(done, times);
-        now = show_once(now, elapsed, levels, array, before, entries);
+        now = show_once(now, elapsed, levels, array);
     }
 }
 
-// Powers a part up as the header says. The rows are refused the first time or never: a run leaves every
-// field of the state within its range (claims/proofs/Kept/InRange, run-fit).
-fn show_case(
-    header: Header,
+// The verdict on the rows, with an answer row of a length: only that counts.
+fn judged(
+    state: State,
     elapsed: &[u32],
     levels: &[u8],
-    array: &mut [u8],
-    before: &mut [u8],
-    answers: &[u8],
-    entries: &mut [u32],
-)
-    requires { ⌜ length (now array) ≤ length (now before) ⌝ }
+    array: &[u8],
+    answers_length: usize,
+) -> Reply
+    requires { ⌜ «answers_length» ≤ 65537 ⌝ }
+{
+    let answers = rooms::row_room();
+    verdicts::judge(state, elapsed, levels, array, &answers[..answers_length])
+}
+
+// Powers a part up as the header says. The rows are refused the first time or never: a run leaves every
+// field of the state within its range (ranges/proofs/InRange, run-fit).
+fn show_case(header: Header, elapsed: &[u32], levels: &[u8], array: &mut [u8])
+    requires { ⌜ length (now array) ≤ 16384 ⌝ }
+    requires { ⌜ header .answers ≤ 65537 ⌝ }
 {
     let part = fields::narrow16(header.part);
     let select = fields::narrow8(header.select);
@@ -78,12 +72,12 @@ fn show_case(
         return;
     };
     let state = fields::put_in(header.preset, up.state);
-    let reply = verdicts::judge(state, elapsed, levels, array, answers);
+    let reply = judged(state, elapsed, levels, array, header.answers as usize);
     let Reply::Accepted(_) = reply else {
         printing::put_refusal(reply);
         return;
     };
-    show_times(header.times, state, elapsed, levels, array, before, entries);
+    show_times(header.times, state, elapsed, levels, array);
 }
 
 // Reads the rows of the case, each lent at just its length, and shows it; false where the input ends
@@ -91,17 +85,15 @@ fn show_case(
 fn show_rows(
     header: Header,
     array: &mut [u8],
-    before: &mut [u8],
     raw: &mut [u8],
     elapsed: &mut [u32],
     levels: &mut [u8],
-    answers: &[u8],
-    entries: &mut [u32],
 ) -> bool
-    requires { ⌜ length (now array) ≤ length (now before) ⌝ }
+    requires { ⌜ length (now array) ≤ 16384 ⌝ }
+    requires { ⌜ header .answers ≤ 65537 ⌝ }
 {
     if reading::read_rows(array, raw, elapsed, levels) {
-        show_case(header, elapsed, levels, array, before, answers, entries);
+        show_case(header, elapsed, levels, array);
         return true;
     }
     false
@@ -111,45 +103,37 @@ fn show_rows(
 fn lend(
     header: Header,
     array: &mut [u8],
-    before: &mut [u8],
     raw: &mut [u8],
     elapsed: &mut [u32],
     levels: &mut [u8],
-    answers: &[u8],
-    entries: &mut [u32],
-) -> bool {
+) -> bool
+    requires { ⌜ length (now array) ≤ 16384 ⌝ }
+{
     let array_length = header.array as usize;
     let elapsed_length = header.elapsed as usize;
     let levels_length = header.levels as usize;
-    let answers_length = header.answers as usize;
     let raw_length = elapsed_length * words::WORD;
     let case = Lengths {
         array: array_length,
         raw: raw_length,
         elapsed: elapsed_length,
         levels: levels_length,
-        answers: answers_length,
+        answers: header.answers as usize,
     };
     let room = Lengths {
         array: array.len(),
         raw: raw.len(),
         elapsed: elapsed.len(),
         levels: levels.len(),
-        answers: answers.len(),
+        answers: rooms::ROW,
     };
-    if array_length > before.len() {
-        return false;
-    }
     if texts::cases::fits(case, room) {
         return show_rows(
             header,
             &mut array[..array_length],
-            before,
             &mut raw[..raw_length],
             &mut elapsed[..elapsed_length],
             &mut levels[..levels_length],
-            &answers[..answers_length],
-            entries,
         );
     }
     false
@@ -162,22 +146,10 @@ fn main() {
         words::decode(&header_bytes, &mut header_words);
         let header = headers::header_of(&header_words);
         let mut array = rooms::array_room();
-        let mut before = rooms::array_room();
         let mut raw = rooms::raw_room();
         let mut elapsed = rooms::elapsed_room();
         let mut levels = rooms::row_room();
-        let answers = rooms::row_room();
-        let mut entries = rooms::entry_room();
-        if lend(
-            header,
-            &mut array,
-            &mut before,
-            &mut raw,
-            &mut elapsed,
-            &mut levels,
-            &answers,
-            &mut entries,
-        ) {
+        if lend(header, &mut array, &mut raw, &mut elapsed, &mut levels) {
             return;
         }
     }

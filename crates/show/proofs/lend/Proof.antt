@@ -1,5 +1,6 @@
 -- `show::lend` is safe: each part that is lent lies within its buffer.
 use mathlib.Core.Path.{sym}
+use native.Mathlib.Omega.{arith}
 use lib.Seq.{length-take-le}
 use Rattle.texts.proofs.Fitting.{fits-all}
 use borrow.Author.Needs.{needs}
@@ -15,53 +16,43 @@ cast-elapsed-length c = search needs
 cast-levels-length : tie.Need-cast-levels-length
 cast-levels-length c = search needs
 
-cast-answers-length : tie.Need-cast-answers-length
-cast-answers-length c = search needs
-
 mul-raw-length : tie.Need-mul-raw-length
 mul-raw-length c = search needs
 
-returns : tie.Need-returns
-returns c = search needs
+cast-t12 : tie.Need-cast-t12
+cast-t12 c = search needs
 
 fits-requires : tie.Need-fits-requires
 fits-requires c κs = search needs
 
 slice-relend-prefix-show-rows : tie.Need-slice-relend-prefix-show-rows
-slice-relend-prefix-show-rows c = fits-all _ _ (c .before .fits2 .ensures) (c .if2 .taken) .array
+slice-relend-prefix-show-rows c = fits-all _ _ (c .before .fits2 .ensures) (c .if1 .taken) .array
 
 slice-aggregate-show-rows : tie.Need-slice-aggregate-show-rows
-slice-aggregate-show-rows c =
-    sym (length-take-le _ _ (fits-all _ _ (c .before .before .fits2 .ensures) (c .before .if2 .taken) .array))
+slice-aggregate-show-rows c = sym (length-take-le _ _ (fits-all _ _ (c .before .before .fits2 .ensures) (c .before .if1 .taken) .array))
 
 slice-relend-prefix-show-rows-2 : tie.Need-slice-relend-prefix-show-rows-2
-slice-relend-prefix-show-rows-2 c = fits-all _ _ (c .before .before .before .fits2 .ensures) (c .before .before .if2 .taken) .raw
+slice-relend-prefix-show-rows-2 c = fits-all _ _ (c .before .before .fits2 .ensures) (c .before .if1 .taken) .raw
 
 slice-aggregate-show-rows-2 : tie.Need-slice-aggregate-show-rows-2
-slice-aggregate-show-rows-2 c =
-    sym (length-take-le _ _ (fits-all _ _ (c .before .before .before .before .fits2 .ensures) (c .before .before .before .if2 .taken) .raw))
+slice-aggregate-show-rows-2 c = sym (length-take-le _ _ (fits-all _ _ (c .before .before .before .fits2 .ensures) (c .before .before .if1 .taken) .raw))
 
 slice-relend-prefix-show-rows-3 : tie.Need-slice-relend-prefix-show-rows-3
-slice-relend-prefix-show-rows-3 c = fits-all _ _ (c .before .before .before .before .fits2 .ensures) (c .before .before .before .if2 .taken) .elapsed
+slice-relend-prefix-show-rows-3 c = fits-all _ _ (c .before .before .before .fits2 .ensures) (c .before .before .if1 .taken) .elapsed
 
 slice-aggregate-show-rows-3 : tie.Need-slice-aggregate-show-rows-3
-slice-aggregate-show-rows-3 c =
-    sym (length-take-le _ _ (fits-all _ _ (c .before .before .before .before .before .fits2 .ensures) (c .before .before .before .before .if2 .taken) .elapsed))
+slice-aggregate-show-rows-3 c = sym (length-take-le _ _ (fits-all _ _ (c .before .before .before .before .fits2 .ensures) (c .before .before .before .if1 .taken) .elapsed))
 
 slice-relend-prefix-show-rows-4 : tie.Need-slice-relend-prefix-show-rows-4
-slice-relend-prefix-show-rows-4 c = fits-all _ _ (c .before .before .before .before .before .fits2 .ensures) (c .before .before .before .before .if2 .taken) .levels
+slice-relend-prefix-show-rows-4 c = fits-all _ _ (c .before .before .before .before .fits2 .ensures) (c .before .before .before .if1 .taken) .levels
 
 slice-aggregate-show-rows-4 : tie.Need-slice-aggregate-show-rows-4
-slice-aggregate-show-rows-4 c =
-    sym (length-take-le _ _ (fits-all _ _ (c .before .before .before .before .before .before .fits2 .ensures) (c .before .before .before .before .before .if2 .taken) .levels))
-
-slice-aggregate-show-rows-5 : tie.Need-slice-aggregate-show-rows-5
-slice-aggregate-show-rows-5 c =
-    sym (length-take-le _ _ (fits-all _ _ (c .before .before .before .before .before .before .before .fits2 .ensures) (c .before .before .before .before .before .before .if2 .taken) .answers))
+slice-aggregate-show-rows-4 c = sym (length-take-le _ _ (fits-all _ _ (c .before .before .before .before .before .fits2 .ensures) (c .before .before .before .before .if1 .taken) .levels))
 
 show-rows-requires : tie.Need-show-rows-requires
 show-rows-requires c κs =
-    rw (length-take-le _ _ (fits-all _ _ (c .before .before .before .before .before .before .before .before .fits2 .ensures) (c .before .before .before .before .before .before .before .if2 .taken) .array)) (c .before .before .before .before .before .before .before .before .before .if1 .left)
+    let all = fits-all _ _ (c .before .before .before .before .before .fits2 .ensures) (c .before .before .before .before .if1 .taken) in
+    (rw (length-take-le _ _ (all .array)) (omega (arith, all .array, c .before .before .before .before .before .before .before .before .before .before .before .before .before .before .pre)), all .answers)
 
 same-length : tie.Need-same-length
 same-length c = search needs
@@ -75,17 +66,11 @@ same-length-3 c = search needs
 same-length-4 : tie.Need-same-length-4
 same-length-4 c = search needs
 
-same-length-5 : tie.Need-same-length-5
-same-length-5 c = search needs
-
-same-length-6 : tie.Need-same-length-6
-same-length-6 c = search needs
+returns : tie.Need-returns
+returns c = search needs
 
 returns-2 : tie.Need-returns-2
 returns-2 c = search needs
-
-returns-3 : tie.Need-returns-3
-returns-3 c = search needs
 
 pub lend-spec : {M : Type 1} → statement M
 lend-spec =
@@ -94,9 +79,8 @@ lend-spec =
     cast-array-length
     cast-elapsed-length
     cast-levels-length
-    cast-answers-length
     mul-raw-length
-    returns
+    cast-t12
     fits-requires
     slice-relend-prefix-show-rows
     slice-aggregate-show-rows
@@ -106,13 +90,10 @@ lend-spec =
     slice-aggregate-show-rows-3
     slice-relend-prefix-show-rows-4
     slice-aggregate-show-rows-4
-    slice-aggregate-show-rows-5
     show-rows-requires
     same-length
     same-length-2
     same-length-3
     same-length-4
-    same-length-5
-    same-length-6
-    returns-2
-    returns-3)
+    returns
+    returns-2)

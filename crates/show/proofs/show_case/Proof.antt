@@ -1,4 +1,4 @@
--- `show::show_case` is safe: the rows are as long as they were lent.
+-- `show::show_case` is safe: the rows and the answer row fit their rooms.
 use borrow.Author.Needs.{needs}
 use Rattle.show.proofs.show_case.Statement.{statement}
 use Rattle.show.proofs.show_case.Tie as tie
@@ -30,8 +30,11 @@ returns c = search needs
 put-in-requires : tie.Need-put-in-requires
 put-in-requires c κs = search needs
 
-judge-requires : tie.Need-judge-requires
-judge-requires c κs = search needs
+cast-judged : tie.Need-cast-judged
+cast-judged c = search needs
+
+judged-requires : tie.Need-judged-requires
+judged-requires c κs = c .before .before .before .before .before .before .before .before .before .before .before .before .pre .1
 
 enum-told-3 : tie.Need-enum-told-3
 enum-told-3 c = search needs
@@ -49,16 +52,10 @@ returns-2 : tie.Need-returns-2
 returns-2 c = search needs
 
 show-times-requires : tie.Need-show-times-requires
-show-times-requires c κs = c .before .before .before .before .before .before .before .before .before .before .before .before .before .before .before .before .before .before .before .before .pre
+show-times-requires c κs = c .before .before .before .before .before .before .before .before .before .before .before .before .before .before .before .before .pre .0
 
 same-length-2 : tie.Need-same-length-2
 same-length-2 c = search needs
-
-same-length-3 : tie.Need-same-length-3
-same-length-3 c = search needs
-
-same-length-4 : tie.Need-same-length-4
-same-length-4 c = search needs
 
 returns-3 : tie.Need-returns-3
 returns-3 c = search needs
@@ -76,7 +73,8 @@ show-case-spec =
     put-refusal-requires
     returns
     put-in-requires
-    judge-requires
+    cast-judged
+    judged-requires
     enum-told-3
     enum-told-4
     put-refusal-requires-2
@@ -84,6 +82,4 @@ show-case-spec =
     returns-2
     show-times-requires
     same-length-2
-    same-length-3
-    same-length-4
     returns-3)

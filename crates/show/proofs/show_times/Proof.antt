@@ -1,4 +1,4 @@
--- `show::show_times` is safe and ends: each replay leaves the rows as long as they were.
+-- `show::show_times` is safe and ends: each replay leaves the array as long as it was.
 use Prim.Native.Nat.{_-_, _≤_}
 use mathlib.Core.Path.{_≡_, refl, _∙_}
 use native.Mathlib.Omega.{arith}
@@ -8,14 +8,10 @@ use Rattle.show.proofs.show_times.Statement.{statement}
 use Rattle.show.proofs.show_times.Tie as tie
 
 abbrev Inv-loop : tie.InvT-loop
-Inv-loop times elapsed levels array₀ before₀ entries₀ now₀ done₀ array before entries now done =
-    (length array ≡ length array₀)
-    × (length before ≡ length before₀)
-    × (length entries ≡ length entries₀)
-    × (length array ≤ length before)
+Inv-loop times elapsed levels array₀ now₀ done₀ array now done = (length array ≡ length array₀) × (length array ≤ 16384)
 
 abbrev μ-loop : tie.MeasureT-loop
-μ-loop times elapsed levels array₀ before₀ entries₀ now₀ done₀ array before entries now done = times - done
+μ-loop times elapsed levels array₀ now₀ done₀ array now done = times - done
 
 put-heading-requires : tie.Need-put-heading-requires Inv-loop μ-loop
 put-heading-requires c κs = search needs
@@ -25,36 +21,28 @@ show-once-requires c κs = search needs
 
 loop-holds : tie.Need-loop-holds Inv-loop μ-loop
 loop-holds c =
-    let call = c .before .before .before .before .before .before .show-once .kept .1 .1 .1 in
-    let start = c .before .before .before .before .before .before .before .before .before .before .before .before .before .before .before .before in
-    (refl, refl, refl, omega (arith, call .0, call .1 .0, start .pre))
+    (refl, omega (arith, c .before .before .show-once .kept .1 .1 .1 .0, c .before .before .before .before .before .before .before .before .pre))
 
 add-done : tie.Need-add-done Inv-loop μ-loop
-add-done c = omega (arith, c .before .before .before .before .before .before .before .before .before .before .before .before .before .before .before .before .before .before .good .0)
+add-done c = search needs
 
 put-heading-requires-2 : tie.Need-put-heading-requires-2 Inv-loop μ-loop
 put-heading-requires-2 c κs = search needs
 
 show-once-requires-2 : tie.Need-show-once-requires-2 Inv-loop μ-loop
-show-once-requires-2 c κs = c .before .before .before .before .before .loop .inv .3
+show-once-requires-2 c κs = c .before .before .before .loop .inv .1
 
 loop-less : tie.Need-loop-less Inv-loop μ-loop
 loop-less c = omega arith
 
 loop-again : tie.Need-loop-again Inv-loop μ-loop
 loop-again c =
-    let call = c .before .before .before .before .before .before .show-once2 .kept .1 .1 .1 in
-    let inv = c .before .before .before .before .before .before .before .before .before .before .before .before .loop .inv in
-    (call .0 ∙ inv .0, call .1 .0 ∙ inv .1, call .1 .1 .0 ∙ inv .2, omega (arith, call .0, call .1 .0, inv .3))
+    let call = c .before .before .show-once2 .kept .1 .1 .1 .0 in
+    let inv = c .before .before .before .before .before .before .loop .inv in
+    (call ∙ inv .0, omega (arith, call, inv .1))
 
 same-length : tie.Need-same-length Inv-loop μ-loop
-same-length c = c .before .loop .inv .0 ∙ c .before .before .before .before .before .before .before .before .show-once .kept .1 .1 .1 .0
-
-same-length-2 : tie.Need-same-length-2 Inv-loop μ-loop
-same-length-2 c = c .before .loop .inv .1 ∙ c .before .before .before .before .before .before .before .before .show-once .kept .1 .1 .1 .1 .0
-
-same-length-3 : tie.Need-same-length-3 Inv-loop μ-loop
-same-length-3 c = c .before .loop .inv .2 ∙ c .before .before .before .before .before .before .before .before .show-once .kept .1 .1 .1 .1 .1 .0
+same-length c = c .before .loop .inv .0 ∙ c .before .before .before .before .show-once .kept .1 .1 .1 .0
 
 returns : tie.Need-returns Inv-loop μ-loop
 returns c = search needs
@@ -74,6 +62,4 @@ show-times-spec =
     loop-less
     loop-again
     same-length
-    same-length-2
-    same-length-3
     returns)
