@@ -21,13 +21,7 @@ pub struct Dim {
 }
 
 // Stops at the first sample with VCC good; `high` is the RESET pin's active level.
-fn go_on(
-    high: bool,
-    first: Dim,
-    elapsed: &[u32],
-    levels: &[u8],
-    row: &mut [u8],
-) -> Dim
+fn go_on(high: bool, first: Dim, elapsed: &[u32], levels: &[u8], row: &mut [u8]) -> Dim
     requires { ⌜ length (now elapsed) ≡ length (now levels) ⌝ }
     requires { ⌜ length (now row) ≡ length (now levels) ⌝ }
     requires { ⌜ first .at ≤ length (now levels) ⌝ }

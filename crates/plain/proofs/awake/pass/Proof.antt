@@ -1,7 +1,6 @@
 -- `plain::awake::pass` meets its contract.
 use mathlib.Core.Bool.{Bool, true, false, _||_}
 use mathlib.Core.Path.{_≡_, refl, sym}
-use borrow.Author.Needs.{needs}
 use Rattle.plain.proofs.Going.{goes-none}
 use Rattle.plain.proofs.Seeing.{never}
 use Rattle.plain.proofs.Standing.{stands-first}

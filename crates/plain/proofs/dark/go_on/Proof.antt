@@ -73,11 +73,14 @@ loop-again c =
     let at = c .before .before .before .before .before .before .before .before .before .before .loop in
     let inv = at .inv .2 in
     let v = sym (c .before .before .before .before .before .before .before .vcc .ensures) ∙ c .before .before .before .before .before .before .if1 .left in
-    let said = c .said .ensures ∙ ap (λ (n : ℕ). 1 + n) (c .before .base-of .ensures .0) in
-    (at .inv .0, at .inv .1, record {
-      goes = λ s array h k. rw (c .before .before .sda .ensures, c .before .before .before .scl .ensures, c .before .before .before .before .less .ensures) (dark-goes s h (inv .goes s array h k) (at .inv .0) (at .inv .1) (c .before .before .before .before .before .before .before .before .before .loop-test .taken) v k (said ∙ ap (λ (n : ℕ). 1 + baseOf (c .before .before .before .before .before .before .before .before .before .before .before .before .before .before .before .args .high) true n) (c .before .before .before .before .less .ensures)));
-      long = simp length-set (inv .long);
-    })
+    let said = c .said .ensures ∙ ap (λ (n : ℕ). 1 + n) (c .before .base-of .ensures .0) in (
+      at .inv .0,
+      at .inv .1,
+      record {
+        goes = λ s array h k. rw (c .before .before .sda .ensures, c .before .before .before .scl .ensures, c .before .before .before .before .less .ensures) (dark-goes s h (inv .goes s array h k) (at .inv .0) (at .inv .1) (c .before .before .before .before .before .before .before .before .before .loop-test .taken) v k (said ∙ ap (λ (n : ℕ). 1 + baseOf (c .before .before .before .before .before .before .before .before .before .before .before .before .before .before .before .args .high) true n) (c .before .before .before .before .less .ensures)));
+        long = simp length-set (inv .long);
+      },
+    )
 
 same-length : tie.Need-same-length Inv-loop μ-loop
 same-length c = c .before .loop .inv .2 .long

@@ -1,6 +1,5 @@
 -- `plain::dark::pass` meets its contract.
 use mathlib.Core.Path.{ap}
-use borrow.Author.Needs.{needs}
 use Rattle.ground.specs.declared.kinds.Kind.{Kind}
 use Rattle.plain.proofs.dark.pass.Statement.{statement}
 use Rattle.plain.proofs.dark.pass.Tie as tie
