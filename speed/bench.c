@@ -116,12 +116,12 @@ static double judged_ratio(const struct row *row, bool by_time)
                    : ratio(row->instructions[PROVED], row->instructions[PLAIN_C]);
 }
 
-/* Answers whether the row's bar, if it is judged here, holds. */
+/* Answers whether the row's bars, if they are judged here, hold; that on instructions needs a count. */
 static bool print_row(const struct job *job, bool by_time, bool judged)
 {
     const struct row *row = &rows[job - jobs];
-    double got = judged_ratio(row, by_time);
-    bool pass = got > 0 && got <= job->bar;
+    double got = judged_ratio(row, by_time), counted = ratio(row->instructions[PROVED], row->instructions[PLAIN_C]);
+    bool pass = got > 0 && got <= job->bar, few = counted <= job->count_bar;
 
     printf("%-30s%3zu x %5zu", job->what, row->calls, row->units / row->calls);
     for (int s = 0; s < SIDES; s++) {
@@ -131,18 +131,25 @@ static bool print_row(const struct job *job, bool by_time, bool judged)
     figure(ratio(row->time[PROVED].best, row->time[PLAIN_C].best), 7, 3);
     for (int s = 0; s < SIDES; s++)
         figure(row->instructions[s], 8, 2);
-    figure(ratio(row->instructions[PROVED], row->instructions[PLAIN_C]), 7, 3);
-    if (judged)
-        printf("  %.1f %s", job->bar, pass ? "pass" : "FAIL");
+    figure(counted, 7, 3);
+    if (!judged) {
+        printf("\n");
+        return true;
+    }
+    printf("  %.1f %s", job->bar, pass ? "pass" : "FAIL");
+    if (job->count_bar > 0 && counted > 0) {
+        printf("  %.2f %s", job->count_bar, few ? "pass" : "FAIL");
+        pass &= few;
+    }
     printf("\n");
-    return pass || !judged;
+    return pass;
 }
 
 static void print_head(const char *title)
 {
     printf("\n%s\n%-30s%11s %17s %17s %7s %17s %7s\n", title, "", "calls", "proved ns", "C ns", "ns", "instructions", "instr.");
-    printf("%-30s%11s %8s %8s %8s %8s %7s %8s %8s %7s  bar\n", "", "x units", "best", "median", "best", "median", "ratio", "proved",
-           "C", "ratio");
+    printf("%-30s%11s %8s %8s %8s %8s %7s %8s %8s %7s  bar       on instr.\n", "", "x units", "best", "median", "best", "median",
+           "ratio", "proved", "C", "ratio");
 }
 
 static bool print_c_quality(void)

@@ -25,11 +25,12 @@ enum operation { REPLAY, READ, WRITE };
 struct job {
     const char *name, *what;
     enum operation operation;
-    size_t size;    /* of one call: samples, room of a text, bytes of an array */
-    double bar;     /* proved / C at most; 0: no bar, the row only shows how cost grows */
-    uint8_t stored; /* replay */
+    size_t size;      /* of one call: samples, room of a text, bytes of an array */
+    double bar;       /* proved / C at most; 0: no bar, the row only shows how cost grows */
+    double count_bar; /* the same of instructions alone, judged where they were counted; 0: none */
+    uint8_t stored;   /* replay */
     void (*capture)(struct master *);
-    unsigned shape; /* read: bytes a record; write: every how many rows one holds bytes */
+    unsigned shape;   /* read: bytes a record; write: every how many rows one holds bytes */
 };
 
 enum { REPLAYS = 7, JOBS = 17 };

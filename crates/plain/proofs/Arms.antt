@@ -13,7 +13,6 @@ use Rattle.part.specs.Page.{emptyLoad, filledOf}
 use Rattle.part.specs.Timers.{loadedOf, writes}
 use Rattle.ground.specs.declared.kinds.Kind.{Kind}
 use Rattle.part.specs.declared.state.Phase.the-variants.{Idle}
-use Rattle.part.specs.declared.state.Talk.{Talk}
 use Rattle.part.specs.declared.state.Timers.{Timers}
 use Rattle.part.specs.declared.state.Watchdog.{Watchdog}
 use Rattle.part.specs.declared.state.Wire.{Wire}
@@ -35,13 +34,13 @@ use Rattle.sample.specs.Sample.{startOf, heardBy, writtenBy, stopOf, byteStep}
 use Rattle.sample.specs.Run.{Part, partStep}
 use Rattle.plain.specs.Goes.{Goes, partOf, movedOf}
 use Rattle.plain.specs.Rooms.{Room, Begins, timersAt, baseOf}
-use Rattle.plain.specs.Clocks.{wireAt, spokenOf, lineAt, seenAt, turnBy, freeAt, Comes, smallBy, Turned}
+use Rattle.plain.specs.Clocks.{wireAt, spokenOf, lineAt, seenAt, turnBy, fallenBy, fallenAt, cutAt, Comes, smallBy, Turned}
 use Rattle.plain.specs.Stands.{stateAt, Stands}
 use Rattle.plain.specs.declared.clocks.Clocks.{Clocks}
 use Rattle.plain.specs.declared.clocks.Turn.{Turn}
 use Rattle.plain.specs.declared.rooms.Times.{Times}
 use Rattle.plain.proofs.Going.{goes-on}
-use Rattle.plain.proofs.Seeing.{Sees, unlike, eighth-seen, ninth-seen, start-seen, stop-seen}
+use Rattle.plain.proofs.Seeing.{Sees, unlike, eighth-bits, eighth-seen, ninth-bits, ninth-seen, start-seen, stop-seen}
 use Rattle.plain.proofs.Timing.{time-passes, still-writes, begins}
 use Rattle.plain.proofs.Standing.{signed, carried, answer-at}
 
@@ -100,52 +99,56 @@ module _ {s : State} {es ls array row₀ : List ℕ} {from base : ℕ} {t : Time
       f
 
   -- An eighth fall, with what it leaves of the device and of the load.
-  pub eighth-turn : (kind : Kind) (x d′ : Device) (m′ : Load) (c′ : Clocks) (v : ℕ) (line : Bool) (room a : ℕ)
-      → Comes c (getD es i 0) (getD ls i 0) Turn.Eighth → v ≡ pushed (c .shift) (c .bit) → kind ≡ kindOf (s .chip .part) → x ≡ spokenOf d c
-      → d′ ≡ byteOf kind (s .chip .select) x v → m′ ≡ keptOf kind x v m
-      → c′ ≡ freeAt false line 8 v (d′ .talk) room → line ≡ lineAt c (getD ls i 0) → room ≡ c .room - getD es i 0 → a ≡ orZero (c′ .own) 1 + base
+  pub eighth-turn : (kind : Kind) (select : ℕ) (x d′ : Device) (m′ : Load) (c′ : Clocks) (v a : ℕ)
+      → Comes c (getD es i 0) (getD ls i 0) Turn.Eighth → v ≡ pushed (c .shift) (c .bit)
+      → kind ≡ kindOf (s .chip .part) → select ≡ s .chip .select → x ≡ spokenOf d c → d′ ≡ byteOf kind select x v → m′ ≡ keptOf kind x v m
+      → c′ ≡ fallenAt c (d′ .talk) (getD es i 0) (getD ls i 0) → a ≡ orZero (c′ .own) 1 + base
       → Stands s es ls array row₀ from base t d′ m′ c′ (set row i a) (i + 1)
   unfolding byteStep
-  eighth-turn kind x d′ m′ c′ v line room a k u j y p q r n z f =
-      carried g more (k .soon) d′ m′ c′ a (ap (λ (o : Clocks). o .room) r ∙ z)
+  eighth-turn kind select x d′ m′ c′ v a k u j l y p q r f =
+      let b = eighth-bits (c .scl) (c .sda) _ _ (c .held) (c .bit) (c .bits) (c .shift) (k .shown) in
+      let z = r ∙ ap (λ (o : Bool). fallenBy o c (d′ .talk) (getD es i 0) (getD ls i 0)) b in
+      carried g more (k .soon) d′ m′ c′ a (ap (λ (o : Clocks). o .room) z)
       (signed g more (k .soon) _ _ _ (k .good) (eighth-seen (c .scl) (c .sda) _ _ (c .held) (c .bit) (c .bits) (c .shift) (k .shown))
-      (rw (r, n, z, p, q, j, y, u))
+      (rw (z, p, q, j, l, y, u))
       refl)
       f
 
   -- A ninth.
-  pub ninth-turn : (kind : Kind) (x d′ : Device) (c′ : Clocks) (line : Bool) (room a : ℕ)
+  pub ninth-turn : (kind : Kind) (x d′ : Device) (c′ : Clocks) (a : ℕ)
       → Comes c (getD es i 0) (getD ls i 0) Turn.Ninth → kind ≡ kindOf (s .chip .part) → x ≡ spokenOf d c → d′ ≡ ninthOf kind array (c .bit) x
-      → c′ ≡ freeAt false line 0 0 (d′ .talk) room → line ≡ lineAt c (getD ls i 0) → room ≡ c .room - getD es i 0 → a ≡ orZero (c′ .own) 1 + base
+      → c′ ≡ fallenAt c (d′ .talk) (getD es i 0) (getD ls i 0) → a ≡ orZero (c′ .own) 1 + base
       → Stands s es ls array row₀ from base t d′ m c′ (set row i a) (i + 1)
-  ninth-turn kind x d′ c′ line room a k j y p r n z f =
-      carried g more (k .soon) d′ m c′ a (ap (λ (o : Clocks). o .room) r ∙ z)
+  ninth-turn kind x d′ c′ a k j y p r f =
+      let b = ninth-bits (c .scl) (c .sda) _ _ (c .held) (c .bit) (c .bits) (c .shift) (k .shown) in
+      let z = r ∙ ap (λ (o : Bool). fallenBy o c (d′ .talk) (getD es i 0) (getD ls i 0)) b in
+      carried g more (k .soon) d′ m c′ a (ap (λ (o : Clocks). o .room) z)
       (signed g more (k .soon) _ _ _ (k .good) (ninth-seen (c .scl) (c .sda) _ _ (c .held) (c .bit) (c .bits) (c .shift) (k .shown))
-      (rw (r, n, z, p, j, y))
+      (rw (z, p, j, y))
       refl)
       f
 
   -- A stop with an empty load and nothing pending.
-  pub stop-turn : (d′ : Device) (c′ : Clocks) (talk : Talk) (room a : ℕ)
+  pub stop-turn : (d′ : Device) (c′ : Clocks) (room a : ℕ)
       → Comes c (getD es i 0) (getD ls i 0) Turn.Stop → d′ ≡ endedOf d → d .control .pending ≡ false → m ≡ emptyLoad
-      → c′ ≡ freeAt true true 0 0 talk room → talk ≡ rested Idle → room ≡ c .room - getD es i 0 → a ≡ 1 + base
+      → c′ ≡ cutAt true room → room ≡ c .room - getD es i 0 → a ≡ 1 + base
       → Stands s es ls array row₀ from base t d′ m c′ (set row i a) (i + 1)
   unfolding stopOf endedOf
-  stop-turn d′ c′ talk room a k p h e r y z f =
+  stop-turn d′ c′ room a k p h e r z f =
       carried g more (k .soon) d′ m c′ a (ap (λ (o : Clocks). o .room) r ∙ z)
       (signed g more (k .soon) _ _ _ (k .good) (stop-seen (c .scl) (c .sda) _ _ (c .held) (c .bit) (c .bits) (c .shift) (k .shown))
-      (rw (r, y, z, p, e, no-order (wpOf (getD ls i 0)) (d .control) h, stop-ends (spokenOf d c)))
+      (rw (r, z, p, e, no-order (wpOf (getD ls i 0)) (d .control) h, stop-ends (spokenOf d c)))
       (rw e))
-      (f ∙ sym (ap (λ (o : Clocks). orZero (o .own) 1 + base) (r ∙ ap (λ (o : Talk). freeAt true true 0 0 o room) y)))
+      (f ∙ sym (ap (λ (o : Clocks). orZero (o .own) 1 + base) r))
 
   -- A start: the watchdog is loaded, and the time is counted anew.
-  pub start-turn : (t′ : Times) (d′ : Device) (m′ : Load) (c′ : Clocks) (talk : Talk) (room a : ℕ)
+  pub start-turn : (t′ : Times) (d′ : Device) (m′ : Load) (c′ : Clocks) (room a : ℕ)
       → Comes c (getD es i 0) (getD ls i 0) Turn.Start → room ≡ c .room - getD es i 0
       → Begins (t .write - (t .all - room)) (loadedOf (d .control .stored)) t′ → d′ ≡ startedOf (ltb 0 (t′ .write)) d → m′ ≡ emptyLoad
-      → c′ ≡ freeAt true false 0 0 talk (t′ .all) → talk ≡ rested Idle → a ≡ 1 + base
+      → c′ ≡ cutAt false (t′ .all) → a ≡ 1 + base
       → Stands s es ls array row₀ from base t′ d′ m′ c′ (set row i a) (i + 1)
   unfolding startOf startedOf
-  start-turn t′ d′ m′ c′ talk room a k z b p e r y f =
+  start-turn t′ d′ m′ c′ room a k z b p e r f =
       let fits = g .fits in
       let soon = k .soon in
       let within : 0 < t .write → t .all - room < t .write = λ n. omega (arith, z, fits, soon, g .times .writes n) in
@@ -156,7 +159,7 @@ module _ {s : State} {es ls array row₀ : List ℕ} {from base : ℕ} {t : Time
       signed g more soon Start _ _ (k .good) (start-seen (c .scl) (c .sda) _ _ (c .held) (c .bit) (c .bits) (c .shift) (k .shown)) refl refl
       in
       subst⁻¹ (λ (o : Clocks). Stands s es ls array row₀ from base t′ d′ m′ o (set row i a) (i + 1))
-      (r ∙ ap (λ (o : Talk). freeAt true false 0 0 o (t′ .all)) y)
+      r
       (record {
         long = g .long;
         wide = g .wide;
@@ -167,5 +170,5 @@ module _ {s : State} {es ls array row₀ : List ℕ} {from base : ℕ} {t : Time
             rw add-one
             (goes-on es ls row₀ row from i (partOf s array) _ (g .goes) a _ (g .long) (g .wide) more
             (rw (begun-anew (s .timers .hold) room t t′ (loadedOf (d .control .stored)) b, p, e, wrote, z) steps)
-            (f ∙ ap (λ (n : ℕ). 1 + n) rests ∙ sym (answer-at s t′ d′ m′ (freeAt true false 0 0 (rested Idle) (t′ .all)) (λ n. omega (arith, n)))));
+            (f ∙ ap (λ (n : ℕ). 1 + n) rests ∙ sym (answer-at s t′ d′ m′ (cutAt false (t′ .all)) (λ n. omega (arith, n)))));
       })

@@ -1,9 +1,11 @@
 -- Samples with VCC low. Assumes nothing.
-use Prim.Native.Nat.{ℕ, _+_, _-_}
+use Prim.Native.Nat.{ℕ, _+_, _-_, _<_}
 use mathlib.Core.Bool.{Bool, true, false}
 use mathlib.Core.List.{List}
 use mathlib.Core.Path.{_≡_, refl, sym, ap, _∙_}
+use native.Mathlib.Numerals.{add-one}
 use lib.Dec.{ltb}
+use lib.ListN.{length, getD, set}
 use Rattle.ground.specs.Cases.{orZero}
 use Rattle.ground.specs.Kind.{kindOf}
 use Rattle.part.specs.Timers.{timedOf, suppliedOf}
@@ -21,9 +23,10 @@ use Rattle.sample.specs.Level.{sclOf, sdaOf, vccOf, answerOf, pinBy}
 use Rattle.sample.specs.Sample.{opensOf, resetOf, stepOf, arrayOf}
 use Rattle.sample.specs.Run.{Part, partStep}
 use Rattle.sample.proofs.Sampled.{step-reset, array-reset}
-use Rattle.plain.specs.Goes.{partOf, movedOf}
+use Rattle.plain.specs.Goes.{Goes, partOf, movedOf}
 use Rattle.plain.specs.Rooms.{baseOf}
 use Rattle.plain.specs.Dark.{heldAt, quietAt, fallenOf, Dark, darkAt}
+use Rattle.plain.proofs.Going.{goes-on}
 use Rattle.plain.proofs.Standing.{sum-of-three}
 
 -- Low VCC is reset.
@@ -84,3 +87,14 @@ module _ (s : State) (h : Dark s) where
   -- Its answer.
   pub dark-said : (write : ℕ) (lines : Lines) → answerOf (darkAt s write lines) ≡ 1 + baseOf (kindOf (s .chip .part) .high) true write
   dark-said write lines = ap answerOf (dark-as write lines) ∙ held-said write lines (s .device) released
+
+  -- One sample more, with its answer.
+  pub dark-goes : {es ls row₀ row array : List ℕ} {from i write : ℕ} {lines : Lines} {p : Part} {high : Bool} {a : ℕ}
+      → Goes es ls from p row₀ i (partOf (darkAt s write lines) array) row → length es ≡ length ls → length row₀ ≡ length ls → i < length ls
+      → vccOf (getD ls i 0) ≡ false → high ≡ kindOf (s .chip .part) .high → a ≡ 1 + baseOf high true (write - getD es i 0)
+      → Goes es ls from p row₀ (i + 1) (partOf (darkAt s (write - getD es i 0) (record { scl = sclOf (getD ls i 0); sda = sdaOf (getD ls i 0) })) array) (set row i a)
+  dark-goes {es} {ls} {row₀} {row} {array} {from} {i} {write} {lines} {p} {high} {a} g u w m v k f =
+      rw add-one
+      (goes-on es ls row₀ row from i p _ g a _ u w m
+      (dark-turn (getD es i 0) (getD ls i 0) write lines array v)
+      (f ∙ ap (λ (b : Bool). 1 + baseOf b true (write - getD es i 0)) k ∙ sym (dark-said (write - getD es i 0) (record { scl = sclOf (getD ls i 0); sda = sdaOf (getD ls i 0) }))))

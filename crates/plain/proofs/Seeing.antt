@@ -201,22 +201,44 @@ module _ (scl sda c d held bit : Bool) (bits shift : ℕ) where
   seen : Sees wire c d (signBy scl c sda d frame) (wireFrom c d (frameBy scl c sda d frame))
   seen = sees-by frame scl sda c d scl c sda d refl refl refl refl
 
+  fell : falls (turnBy (signOf wire c d)) ≡ true → (scl ≡ true) × (c ≡ false)
+  fell h = fall-lines scl c sda d frame (sym (ap (λ (x : Sign). falls (turnBy x)) (seen .shown)) ∙ h)
+
+  -- An eighth fall, and the seven bits before it.
+  eighth : turnBy (signOf wire c d) ≡ Turn.Eighth → (held ≡ true) × (ltb bits 7 ≡ false) × (eqb bits 7 ≡ true)
+  unfolding fallSign falls
+  eighth h =
+      let l = fell (ap falls h) in
+      eighth-by held (ltb bits 7) (eqb bits 7) frame (sym (ap turnBy (fall-seen scl sda c d held bit bits shift (l .0) (l .1) .shown)) ∙ h)
+
+  pub eighth-bits : turnBy (signOf wire c d) ≡ Turn.Eighth → eqb bits 7 ≡ true
+  eighth-bits h = eighth h .2
+
   pub eighth-seen : turnBy (signOf wire c d) ≡ Turn.Eighth
       → Sees wire c d (Byte (pushed shift bit)) (wireFrom false d (frameFrom false false 8 (pushed shift bit)))
   unfolding fallSign fallFrame falls
   eighth-seen h =
-      let l = fall-lines scl c sda d frame (ap falls (sym (ap turnBy (seen .shown)) ∙ h)) in
+      let l = fell (ap falls h) in
       let s = fall-seen scl sda c d held bit bits shift (l .0) (l .1) in
-      let k = eighth-by held (ltb bits 7) (eqb bits 7) frame (sym (ap turnBy (s .shown)) ∙ h) in
-      let b = eqb-true bits 7 (k .2) in
-      record { shown = s .shown ∙ rw (k .0, b); left = s .left ∙ rw (k .0, b) }
+      let b = eqb-true bits 7 (eighth-bits h) in
+      record { shown = s .shown ∙ rw (eighth h .0, b); left = s .left ∙ rw (eighth h .0, b) }
+
+  -- A ninth, and the eight before it.
+  ninth : turnBy (signOf wire c d) ≡ Turn.Ninth → (held ≡ true) × (ltb bits 7 ≡ false) × (eqb bits 7 ≡ false)
+  unfolding fallSign falls
+  ninth h =
+      let l = fell (ap falls h) in
+      ninth-by held (ltb bits 7) (eqb bits 7) frame (sym (ap turnBy (fall-seen scl sda c d held bit bits shift (l .0) (l .1) .shown)) ∙ h)
+
+  pub ninth-bits : turnBy (signOf wire c d) ≡ Turn.Ninth → eqb bits 7 ≡ false
+  ninth-bits h = ninth h .2
 
   pub ninth-seen : turnBy (signOf wire c d) ≡ Turn.Ninth → Sees wire c d (Ninth bit) (wireFrom false d cleanFrame)
   unfolding fallSign fallFrame falls
   ninth-seen h =
-      let l = fall-lines scl c sda d frame (ap falls (sym (ap turnBy (seen .shown)) ∙ h)) in
+      let l = fell (ap falls h) in
       let s = fall-seen scl sda c d held bit bits shift (l .0) (l .1) in
-      let k = ninth-by held (ltb bits 7) (eqb bits 7) frame (sym (ap turnBy (s .shown)) ∙ h) in
+      let k = ninth h in
       let g : 7 ≤ bits = ltb-false bits 7 (k .1) in
       let n : bits ≡ 7 → ⊥ = eqb-false bits 7 (k .2) in
       let m : 8 ≤ bits = omega arith in

@@ -2,15 +2,16 @@
 use Prim.Native.Nat.{ℕ, _-_, _<_}
 use mathlib.Core.Bool.{Bool, true, false, _&&_}
 use mathlib.Core.Path.{_≡_}
-use lib.Dec.{ltb}
+use lib.Dec.{ltb, eqb}
+use Rattle.part.specs.declared.state.Phase.the-variants.{Idle}
 use Rattle.part.specs.declared.state.Device.{Device}
 use Rattle.part.specs.declared.state.Talk.{Talk}
 use Rattle.part.specs.declared.state.Wire.{Wire}
-use Rattle.wire.specs.Sign.{signOf, wireOf}
+use Rattle.wire.specs.Sign.{pushed, signOf, wireOf}
 use Rattle.wire.specs.declared.Sign.{Sign}
 use Rattle.wire.specs.declared.Sign.the-variants.{Quiet, Start, Stop, Bit, Byte, Ninth}
 use Rattle.part.specs.State.{withTalk}
-use Rattle.device.specs.Talk.{sendsIn}
+use Rattle.device.specs.Talk.{rested, sendsIn}
 use Rattle.device.specs.Bytes.{bitOf}
 use Rattle.sample.specs.Level.{sclOf, sdaOf, vccOf}
 use Rattle.plain.specs.declared.clocks.Clocks.{Clocks}
@@ -40,6 +41,18 @@ clocksOf w k room =
 abbrev pub freeAt : Bool → Bool → ℕ → ℕ → Talk → ℕ → Clocks
 freeAt scl sda bits shift k room =
     clocksOf (record { lines = record { scl = scl; sda = sda }; frame = record { held = false; bit = false; bits = bits; shift = shift } }) k room
+
+-- The clocks after an eighth fall, or a ninth, that left a talk.
+abbrev pub fallenBy : Bool → Clocks → Talk → ℕ → ℕ → Clocks
+fallenBy true c k e level = freeAt false (sdaOf level && c .own) 8 (pushed (c .shift) (c .bit)) k (c .room - e)
+fallenBy false c k e level = freeAt false (sdaOf level && c .own) 0 0 k (c .room - e)
+
+abbrev pub fallenAt : Clocks → Talk → ℕ → ℕ → Clocks
+fallenAt c k e level = fallenBy (eqb (c .bits) 7) c k e level
+
+-- And after a start or a stop: nothing is said.
+abbrev pub cutAt : Bool → ℕ → Clocks
+cutAt sda room = freeAt true sda 0 0 (rested Idle) room
 
 -- A device with the talk that the clocks have come to: its phase stays.
 abbrev pub spokenOf : Device → Clocks → Device

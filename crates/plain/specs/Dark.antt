@@ -1,8 +1,11 @@
 -- Samples with VCC low, reset going on.
 use Prim.Native.Nat.{ℕ}
-use mathlib.Core.Bool.{true, false}
+use mathlib.Core.Bool.{Bool, true, false}
+use mathlib.Core.List.{List}
 use mathlib.Core.Path.{_≡_}
+use lib.ListN.{length}
 use Rattle.ground.specs.Numbers.{resetHold}
+use Rattle.ground.specs.Kind.{kindOf}
 use Rattle.part.specs.Page.{emptyLoad}
 use Rattle.part.specs.declared.state.Device.{Device}
 use Rattle.part.specs.declared.state.Lines.{Lines}
@@ -14,7 +17,8 @@ use Rattle.wire.specs.Sign.{cleanFrame}
 use Rattle.part.specs.State.{withControl}
 use Rattle.device.specs.Ends.{endedOf}
 use Rattle.sample.specs.Sample.{latchedBy}
-use Rattle.plain.specs.Goes.{movedOf}
+use Rattle.plain.specs.Goes.{Goes, partOf, movedOf}
+use Rattle.plain.specs.declared.dark.Dim.{Dim}
 
 -- The timers while VCC is low, but for the write time.
 abbrev pub heldAt : ℕ → Watchdog → Timers
@@ -43,3 +47,9 @@ darkAt s write lines =
     (record { lines = lines; frame = s .wire .frame })
     (s .device)
     (s .load)
+
+-- Samples with VCC low from a dark state on: nothing is lost of the run, nor of the answers.
+pub record Dims (high : Bool) (es ls : List ℕ) (d : Dim) (row : List ℕ) (d′ : Dim) (row′ : List ℕ) : Type 0 where
+  pub goes : (s : State) (array : List ℕ) → Dark s → high ≡ kindOf (s .chip .part) .high
+      → Goes es ls (d .at) (partOf (darkAt s (d .write) (d .lines)) array) row (d′ .at) (partOf (darkAt s (d′ .write) (d′ .lines)) array) row′
+  pub long : length row′ ≡ length row

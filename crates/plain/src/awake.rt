@@ -5,25 +5,33 @@ use crate::clocks::Clocks;
 use crate::clocks::Turn;
 use crate::rooms;
 use crate::rooms::Times;
-use device::address;
 use device::bits;
 use device::bytes;
 use device::ends;
 use ground::kinds;
+use ground::kinds::Kind;
 use part::page;
 use part::state::Device;
 use part::state::Load;
 use part::state::PAGE;
-use part::state::Phase;
 use part::state::State;
 use part::state::Talk;
-use sample::answers;
 ghost use mathlib.Core.Path.{_≡_};
 ghost use Prim.Native.Nat.{_≤_};
 ghost use lib.ListN.{length};
 ghost use Rattle.plain.specs.Goes.{Goes, partOf};
-ghost use Rattle.plain.specs.Clocks.{spokenOf, freeAt};
-ghost use Rattle.plain.specs.Stands.{stateAt};
+ghost use Rattle.plain.specs.Clocks.{spokenOf};
+ghost use Rattle.plain.specs.Stands.{Goes-on};
+
+// Where the loops stopped, and the sample before which they did. The talk's bits stand in `now`, its phase
+// in the device.
+pub struct Went {
+    pub times: Times,
+    pub device: Device,
+    pub now: Clocks,
+    pub load: Load,
+    pub at: usize,
+}
 
 // The device with the talk that the clocks have come to.
 fn spoken(d: Device, now: Clocks) -> Device
@@ -42,67 +50,29 @@ fn spoken(d: Device, now: Clocks) -> Device
     next
 }
 
-// The clocks with no bit held.
-fn free(scl: bool, sda: bool, bits: u8, shift: u8, talk: Talk, room: u32) -> Clocks
-    ensures { λ r. ⌜ r ≡ freeAt scl sda bits shift talk room ⌝ }
-{
-    Clocks {
-        room,
-        scl,
-        sda,
-        held: false,
-        bit: false,
-        bits,
-        shift,
-        high: talk.high,
-        out: talk.out,
-        own: talk.own,
-    }
-}
-
-fn stop_at(s: State, times: Times, d: Device, load: Load, now: Clocks, at: usize) -> Stand
-    ensures { λ r. ⌜ r ≡ record { state = stateAt s times d load now; at = at } ⌝ }
-{
-    let before = s.timers;
-    let after = rooms::timers_at(before.hold, times, now.room);
-    let wire = clocks::wire_of(now);
-    let device = spoken(d, now);
-    let mut next = s;
-    next.timers = after;
-    next.wire = wire;
-    next.device = device;
-    next.load = load;
-    Stand { state: next, at }
-}
-
-// Stops where VCC is low or a timer would end, and before a stop that has something to do. The inner loop
-// takes the clocks; here is what a byte needs twice and a transfer a few times.
-pub fn pass(
-    s: State,
+// The outer loop: what a byte needs twice and a transfer a few times; the inner one takes the clocks. Stops
+// where VCC is low or a timer would end, and before a stop that has something to do.
+fn go_on(
+    kind: Kind,
+    select: u8,
+    base: u8,
+    first: Went,
     elapsed: &[u32],
     levels: &[u8],
     array: &[u8],
     row: &mut [u8],
-    from: usize,
-) -> Stand
+) -> Went
     requires { ⌜ length (now elapsed) ≡ length (now levels) ⌝ }
     requires { ⌜ length (now row) ≡ length (now levels) ⌝ }
-    requires { ⌜ from ≤ length (now levels) ⌝ }
-    ensures { λ r. ⌜ Goes (now (elapsed .entry)) (now (levels .entry)) from (partOf s (now (array .entry))) (now (row .entry)) (r .at) (partOf (r .state) (now (array .entry))) (now (row .exit)) ⌝ }
+    requires { ⌜ base ≤ 6 ⌝ }
+    ensures { λ r. ⌜ Goes-on kind select base (now (elapsed .entry)) (now (levels .entry)) (now (array .entry)) first (now (row .entry)) r (now (row .exit)) ⌝ }
 {
-    let before = s.timers;
-    if before.reset | before.low {
-        return Stand { state: s, at: from };
-    }
-    let kind = kinds::kind_of(s.chip.part);
-    let select = s.chip.select;
-    let base = rooms::base_of(kind.high, false, before.write);
-    let mut times = rooms::times_of(before.write, before.watchdog);
-    let mut device = s.device;
-    let mut now = clocks::clocks_of(s.wire, device.talk, times.all);
-    let mut load = s.load;
+    let mut times = first.times;
+    let mut device = first.device;
+    let mut now = first.now;
+    let mut load = first.load;
     let mut empty = false;
-    let mut i = from;
+    let mut i = first.at;
     while i < levels.len() {
         let e = elapsed[i];
         let level = levels[i];
@@ -127,27 +97,13 @@ pub fn pass(
                     empty = false;
                 }
                 device = bytes::byte(kind, select, d, v);
-                now = free(
-                    false,
-                    answers::line(level, now.own),
-                    8,
-                    v,
-                    device.talk,
-                    now.room - e,
-                );
+                now = clocks::fallen(now, device.talk, e, level);
                 row[i] = rooms::said(now.own, base);
                 i += 1;
             }
             Turn::Ninth => {
                 device = bits::ninth(kind, array, now.bit, spoken(device, now));
-                now = free(
-                    false,
-                    answers::line(level, now.own),
-                    0,
-                    0,
-                    device.talk,
-                    now.room - e,
-                );
+                now = clocks::fallen(now, device.talk, e, level);
                 row[i] = rooms::said(now.own, base);
                 i += 1;
             }
@@ -159,7 +115,7 @@ pub fn pass(
                 let control = device.control;
                 times = rooms::started(times, now.room - e, control.stored);
                 device = ends::start(0 < times.write, device);
-                now = free(true, false, 0, 0, address::rest(Phase::Idle), times.all);
+                now = clocks::cut(false, times.all);
                 row[i] = rooms::said(true, base);
                 i += 1;
             }
@@ -169,7 +125,7 @@ pub fn pass(
                     break;
                 }
                 device = ends::end(device);
-                now = free(true, true, 0, 0, address::rest(Phase::Idle), now.room - e);
+                now = clocks::cut(true, now.room - e);
                 row[i] = rooms::said(true, base);
                 i += 1;
             }
@@ -178,5 +134,50 @@ pub fn pass(
             }
         }
     }
-    stop_at(s, times, device, load, now, i)
+    Went {
+        times,
+        device,
+        now,
+        load,
+        at: i,
+    }
+}
+
+pub fn pass(
+    s: State,
+    elapsed: &[u32],
+    levels: &[u8],
+    array: &[u8],
+    row: &mut [u8],
+    from: usize,
+) -> Stand
+    requires { ⌜ length (now elapsed) ≡ length (now levels) ⌝ }
+    requires { ⌜ length (now row) ≡ length (now levels) ⌝ }
+    requires { ⌜ from ≤ length (now levels) ⌝ }
+    ensures { λ r. ⌜ Goes (now (elapsed .entry)) (now (levels .entry)) from (partOf s (now (array .entry))) (now (row .entry)) (r .at) (partOf (r .state) (now (array .entry))) (now (row .exit)) ⌝ }
+{
+    let before = s.timers;
+    if before.reset | before.low {
+        return Stand { state: s, at: from };
+    }
+    let chip = s.chip;
+    let kind = kinds::kind_of(chip.part);
+    let base = rooms::base_of(kind.high, false, before.write);
+    let times = rooms::times_of(before.write, before.watchdog);
+    let device = s.device;
+    let now = clocks::clocks_of(s.wire, device.talk, times.all);
+    let load = s.load;
+    let first = Went {
+        times,
+        device,
+        now,
+        load,
+        at: from,
+    };
+    let went = go_on(kind, chip.select, base, first, elapsed, levels, array, row);
+    let end = went.now;
+    let timers = rooms::timers_at(before.hold, went.times, end.room);
+    let wire = clocks::wire_of(end);
+    let spoke = spoken(went.device, end);
+    crate::moved(s, timers, wire, spoke, went.load, went.at)
 }

@@ -10,7 +10,7 @@ ghost use mathlib.Core.Path.{_≡_};
 ghost use mathlib.Core.Bool.{Bool};
 ghost use Prim.Native.Nat.{_≤_};
 ghost use lib.ListN.{length};
-ghost use Rattle.plain.specs.Clocks.{wireAt, clocksOf, turnBy, seenAt, turnOf, Comes, Turned};
+ghost use Rattle.plain.specs.Clocks.{wireAt, clocksOf, fallenAt, cutAt, turnBy, seenAt, turnOf, Comes, Turned};
 ghost use Rattle.plain.specs.Stands.{Clocked};
 
 // What a clock changes, side by side: the time in which no timer ends, the lines, the frame, and the talk
@@ -78,6 +78,59 @@ pub fn wire_of(c: Clocks) -> Wire
             bits: c.bits,
             shift: c.shift,
         },
+    }
+}
+
+// The clocks after an eighth or a ninth fall that left this talk.
+pub fn fallen(now: Clocks, talk: Talk, elapsed: u32, level: u8) -> Clocks
+    requires { ⌜ elapsed ≤ now .room ⌝ }
+    ensures { λ r. ⌜ r ≡ fallenAt now talk elapsed level ⌝ }
+{
+    let sda = answers::line(level, now.own);
+    let room = now.room - elapsed;
+    if now.bits == 7 {
+        return Clocks {
+            room,
+            scl: false,
+            sda,
+            held: false,
+            bit: false,
+            bits: 8,
+            shift: wire::push(now.shift, now.bit),
+            high: talk.high,
+            out: talk.out,
+            own: talk.own,
+        };
+    }
+    Clocks {
+        room,
+        scl: false,
+        sda,
+        held: false,
+        bit: false,
+        bits: 0,
+        shift: 0,
+        high: talk.high,
+        out: talk.out,
+        own: talk.own,
+    }
+}
+
+// The clocks after a start or a stop: nothing is said.
+pub fn cut(sda: bool, room: u32) -> Clocks
+    ensures { λ r. ⌜ r ≡ cutAt sda room ⌝ }
+{
+    Clocks {
+        room,
+        scl: true,
+        sda,
+        held: false,
+        bit: false,
+        bits: 0,
+        shift: 0,
+        high: 0,
+        out: 0,
+        own: true,
     }
 }
 

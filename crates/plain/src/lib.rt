@@ -6,16 +6,33 @@ mod clocks;
 mod dark;
 mod rooms;
 
+use part::state::Device;
+use part::state::Load;
 use part::state::State;
+use part::state::Timers;
+use part::state::Wire;
+use sample::answers;
+use sample::steps;
 ghost use mathlib.Core.Path.{_≡_};
 ghost use Prim.Native.Nat.{_≤_};
 ghost use lib.ListN.{length};
-ghost use Rattle.plain.specs.Goes.{Goes, partOf};
+ghost use Rattle.plain.specs.Goes.{Goes, partOf, movedOf};
 
 // A state, and the sample that comes next.
 pub struct Stand {
     pub state: State,
     pub at: usize,
+}
+
+fn moved(s: State, timers: Timers, wire: Wire, device: Device, load: Load, at: usize) -> Stand
+    ensures { λ r. ⌜ r ≡ record { state = movedOf s timers wire device load; at = at } ⌝ }
+{
+    let mut next = s;
+    next.timers = timers;
+    next.wire = wire;
+    next.device = device;
+    next.load = load;
+    Stand { state: next, at }
 }
 
 // Goes on from the sample `from`, answers each sample that it passes, and may stop before any.
@@ -32,6 +49,14 @@ pub fn ahead(
     requires { ⌜ from ≤ length (now levels) ⌝ }
     ensures { λ r. ⌜ Goes (now (elapsed .entry)) (now (levels .entry)) from (partOf s (now (array .entry))) (now (row .entry)) (r .at) (partOf (r .state) (now (array .entry))) (now (row .exit)) ⌝ }
 {
-    let stand = dark::pass(s, elapsed, levels, array, row, from);
-    awake::pass(stand.state, elapsed, levels, array, row, stand.at)
+    if levels.len() <= from {
+        return Stand { state: s, at: from };
+    }
+    let level = levels[from];
+    if answers::vcc(level) {
+        return awake::pass(s, elapsed, levels, array, row, from);
+    }
+    let first = steps::in_reset(steps::opens(s, elapsed[from], level), level);
+    row[from] = answers::answer(first);
+    dark::pass(first, elapsed, levels, array, row, from + 1)
 }

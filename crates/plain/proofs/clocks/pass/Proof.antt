@@ -64,7 +64,7 @@ shared-slice-read-level : tie.Need-shared-slice-read-level Inv-loop μ-loop
 shared-slice-read-level c = search needs
 
 turn-of-requires : tie.Need-turn-of-requires Inv-loop μ-loop
-turn-of-requires c κs = search needs
+turn-of-requires c κs = tt
 
 enum-told : tie.Need-enum-told Inv-loop μ-loop
 enum-told c = search needs

@@ -2,15 +2,14 @@
 use mathlib.Core.Bool.{true, false}
 use mathlib.Core.Path.{refl, _∙_}
 use Rattle.plain.proofs.Seeing.{told-by, none-told, bit-told, eighth-told, ninth-told}
-use borrow.Author.Needs.{needs}
 use Rattle.plain.proofs.clocks.told.Statement.{statement}
 use Rattle.plain.proofs.clocks.told.Tie as tie
 
 scl-requires : tie.Need-scl-requires
-scl-requires c κs = search needs
+scl-requires c κs = tt
 
 line-requires : tie.Need-line-requires
-line-requires c κs = search needs
+line-requires c κs = tt
 
 returns : tie.Need-returns
 returns c = told-by _ _ _ _ _ _ _ true true true true (c .before .before .before .before .before .scl .ensures) (c .before .before .before .before .line .ensures) (c .before .before .before .if1 .taken) (c .before .before .if2 .taken) (c .before .if3 .taken) (c .if4 .taken)

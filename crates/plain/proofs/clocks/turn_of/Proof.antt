@@ -1,15 +1,14 @@
 -- `plain::clocks::turn_of` meets its contract.
 use borrow.Author.Tests.{lt-ltb, le-ltb}
 use Rattle.plain.specs.Clocks.{turnOf}
-use borrow.Author.Needs.{needs}
 use Rattle.plain.proofs.clocks.turn_of.Statement.{statement}
 use Rattle.plain.proofs.clocks.turn_of.Tie as tie
 
 vcc-requires : tie.Need-vcc-requires
-vcc-requires c κs = search needs
+vcc-requires c κs = tt
 
 told-requires : tie.Need-told-requires
-told-requires c κs = search needs
+told-requires c κs = tt
 
 returns : tie.Need-returns
 unfolding turnOf

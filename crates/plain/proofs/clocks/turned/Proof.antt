@@ -8,10 +8,10 @@ use Rattle.plain.proofs.clocks.turned.Statement.{statement}
 use Rattle.plain.proofs.clocks.turned.Tie as tie
 
 scl-requires : tie.Need-scl-requires
-scl-requires c κs = search needs
+scl-requires c κs = tt
 
 line-requires : tie.Need-line-requires
-line-requires c κs = search needs
+line-requires c κs = tt
 
 sub-next : tie.Need-sub-next
 sub-next c = search needs
@@ -23,7 +23,7 @@ returns-2 : tie.Need-returns-2
 returns-2 c = turned-quiet _ _ (c .before .before .before .before .scl .ensures) (c .before .before .before .line .ensures) refl (rise-seen _ _ _ _ _ (c .if2 .left) (c .before .if1 .taken)) (λ x. refl)
 
 push-requires : tie.Need-push-requires
-push-requires c κs = search needs
+push-requires c κs = tt
 
 add-next : tie.Need-add-next
 add-next c =
@@ -32,10 +32,10 @@ add-next c =
     omega (arith, g)
 
 shifted-requires : tie.Need-shifted-requires
-shifted-requires c κs = search needs
+shifted-requires c κs = tt
 
 top-requires : tie.Need-top-requires
-top-requires c κs = search needs
+top-requires c κs = tt
 
 returns-3 : tie.Need-returns-3
 returns-3 c = turned-bit _ _ (c .before .before .before .before .before .before .before .before .before .before .scl .ensures) (c .before .before .before .before .before .before .before .before .before .line .ensures) refl (rw (c .before .before .before .before .push .ensures) (fall-bit _ _ _ _ _ _ _ _ (c .before .before .before .before .before .before .if3 .taken) (c .before .before .before .before .before .before .before .if1 .left) (c .before .before .before .before .before .if4 .taken) (fall-few _ _ _ _ _ _ _ _ (c .before .before .before .before .before .before .if3 .taken) (c .before .before .before .before .before .before .before .if1 .left) (c .before .before .before .before .before .if4 .taken) (read-so _ _ _ _ _ _ (c .before .before .before .before .before .before .before .before .before .before .scl .ensures) (c .before .before .before .before .before .before .before .before .before .line .ensures) (c .before .before .before .before .before .before .before .before .before .before .before .pre .shown))))) (λ x h. sent-talk x (c .before .before .before .before .before .before .before .before .before .before .before .args .now) _ _ _ h (c .before .before .if5 .taken) (c .before .shifted .ensures) (c .top .ensures))

@@ -1,82 +1,25 @@
 -- `plain::dark::pass` meets its contract.
-use Rattle.plain.specs.Goes.{partOf}
-use mathlib.Core.Path.{_≡_, sym, _∙_}
-use native.Mathlib.Omega.{arith}
-use native.Mathlib.Numerals.{add-one}
-use lib.ListN.{length, getD, length-set}
-use Rattle.sample.specs.Run.{partStep}
-use Rattle.plain.proofs.Going.{goes-none, goes-on, goes-then}
-use Rattle.plain.proofs.Darkness.{low-step, first-dark}
-use borrow.Author.Needs.{needs}
+use mathlib.Core.Path.{ap}
+use Rattle.ground.specs.declared.kinds.Kind.{Kind}
 use Rattle.plain.proofs.dark.pass.Statement.{statement}
 use Rattle.plain.proofs.dark.pass.Tie as tie
 
-returns : tie.Need-returns
-returns c = search needs
-
-shared-slice-read-level : tie.Need-shared-slice-read-level
-shared-slice-read-level c = search needs
-
-vcc-requires : tie.Need-vcc-requires
-vcc-requires c κs = search needs
-
-returns-2 : tie.Need-returns-2
-returns-2 c = search needs
-
-mul-opens : tie.Need-mul-opens
-mul-opens c = search needs
-
-shared-slice-read-opens : tie.Need-shared-slice-read-opens
-shared-slice-read-opens c = search needs
-
-opens-requires : tie.Need-opens-requires
-opens-requires c κs = search needs
-
-in-reset-requires : tie.Need-in-reset-requires
-in-reset-requires c κs = search needs
-
-answer-requires : tie.Need-answer-requires
-answer-requires c κs = search needs
-
-slice-write-row : tie.Need-slice-write-row
-slice-write-row c = omega (arith, c .before .before .before .before .before .before .before .if1 .left, c .before .before .before .before .before .before .before .before .before .before .before .before .pre .1 .0)
-
-add-go-on : tie.Need-add-go-on
-add-go-on c = omega (arith, c .before .before .before .before .before .before .before .before .if1 .left, c .before .before .before .before .before .before .before .before .before .before .before .before .before .good .1 .1 .0 .0)
+kind-of-requires : tie.Need-kind-of-requires
+kind-of-requires c κs = tt
 
 go-on-requires : tie.Need-go-on-requires
 go-on-requires c κs =
-    let pre = c .before .before .before .before .before .before .before .before .before .before .before .before .before .pre in
-    let v = sym (c .before .before .before .before .before .before .vcc .ensures) ∙ c .before .before .before .before .before .if2 .left in
-    (pre .0, (simp length-set (pre .1 .0), (omega (arith, c .before .before .before .before .before .before .before .before .if1 .left), rw (c .before .before .in-reset .ensures, c .before .before .before .opens .ensures) (first-dark _ _ _ v))))
+    let pre = c .before .before .before .before .before .before .before .before .before .pre in
+    (pre .0, (pre .1 .0, pre .1 .1 .0))
+
+moved-requires : tie.Need-moved-requires
+moved-requires c κs = tt
 
 same-length : tie.Need-same-length
-same-length c = c .before .before .go-on .kept .1 .1 .1 .1 .0 ∙ simp length-set
+same-length c = c .before .before .before .before .go-on .ensures .long
 
-returns-3 : tie.Need-returns-3
-returns-3 c =
-    let pre = c .before .before .before .before .before .before .before .before .before .before .before .before .before .before .before .before .pre in
-    let v = sym (c .before .before .before .before .before .before .before .before .before .vcc .ensures) ∙ c .before .before .before .before .before .before .before .before .if2 .left in
-    let a = c .before .before .before .before .before .before .before .before .before .before .before .before .before .before .before .before .args in
-    let step : partOf (c .before .before .before .before .before .in-reset .result) (a .array .now) ≡ partStep (getD (a .elapsed .now) (a .from) 0) (getD (a .levels .now) (a .from) 0) (partOf (a .s) (a .array .now)) = rw (c .before .before .before .before .before .in-reset .ensures, c .before .before .before .before .before .before .opens .ensures) (low-step _ _ _ _ v) in
-    let first = goes-on (a .elapsed .now) (a .levels .now) (a .row .now) (a .row .now) (a .from) (a .from) _ _ (goes-none _ _ _ _ (partOf (a .s) (a .array .now)) (pre .1 .1)) _ (partOf (c .before .before .before .before .before .in-reset .result) (c .before .before .before .before .before .before .before .before .before .before .before .before .before .before .before .before .args .array .now)) (pre .0) (pre .1 .0) (c .before .before .before .before .before .before .before .before .before .before .before .if1 .left) step (c .before .before .before .before .answer .ensures) in
-    goes-then _ _ _ _ _ _ _ _ (rw add-one first) _ _ _ (c .before .before .go-on .ensures)
+returns : tie.Need-returns
+returns c = rw (c .moved .ensures) (c .before .before .before .before .go-on .ensures .goes _ _ (c .before .before .before .before .before .before .before .before .before .before .before .before .before .before .pre .1 .1 .1) (ap (λ (k : Kind). k .high) (c .before .before .before .before .before .before .before .kind-of .ensures)))
 
 pub pass-spec : {M : Type 1} → statement M
-pass-spec =
-    tie.close
-    (tie.spec
-    returns
-    shared-slice-read-level
-    vcc-requires
-    returns-2
-    mul-opens
-    shared-slice-read-opens
-    opens-requires
-    in-reset-requires
-    answer-requires
-    slice-write-row
-    add-go-on
-    go-on-requires
-    same-length
-    returns-3)
+pass-spec = tie.close (tie.spec kind-of-requires go-on-requires moved-requires same-length returns)

@@ -5,13 +5,13 @@ use Rattle.plain.proofs.rooms.base_of.Statement.{statement}
 use Rattle.plain.proofs.rooms.base_of.Tie as tie
 
 pin-requires : tie.Need-pin-requires
-pin-requires c κs = search needs
+pin-requires c κs = tt
 
 worth-requires : tie.Need-worth-requires
-worth-requires c κs = search needs
+worth-requires c κs = tt
 
 worth-requires-2 : tie.Need-worth-requires-2
-worth-requires-2 c κs = search needs
+worth-requires-2 c κs = tt
 
 add-result : tie.Need-add-result
 add-result c = search needs

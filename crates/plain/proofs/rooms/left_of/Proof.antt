@@ -4,7 +4,7 @@ use Rattle.plain.proofs.rooms.left_of.Statement.{statement}
 use Rattle.plain.proofs.rooms.left_of.Tie as tie
 
 less-requires : tie.Need-less-requires
-less-requires c κs = search needs
+less-requires c κs = tt
 
 returns : tie.Need-returns
 returns c = rw (c .less .ensures, c .before .if1 .taken)

@@ -7,7 +7,7 @@ use Rattle.plain.proofs.rooms.room_of.Statement.{statement}
 use Rattle.plain.proofs.rooms.room_of.Tie as tie
 
 smaller-requires : tie.Need-smaller-requires
-smaller-requires c κs = search needs
+smaller-requires c κs = tt
 
 returns : tie.Need-returns
 returns c = search needs

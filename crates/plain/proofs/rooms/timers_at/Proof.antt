@@ -1,16 +1,15 @@
 -- `plain::rooms::timers_at` meets its contract.
-use borrow.Author.Needs.{needs}
 use Rattle.plain.proofs.rooms.timers_at.Statement.{statement}
 use Rattle.plain.proofs.rooms.timers_at.Tie as tie
 
 less-requires : tie.Need-less-requires
-less-requires c κs = search needs
+less-requires c κs = tt
 
 less-requires-2 : tie.Need-less-requires-2
-less-requires-2 c κs = search needs
+less-requires-2 c κs = tt
 
 left-of-requires : tie.Need-left-of-requires
-left-of-requires c κs = search needs
+left-of-requires c κs = tt
 
 returns : tie.Need-returns
 returns c = rw (c .left-of .ensures, c .before .less2 .ensures, c .before .before .less .ensures)
