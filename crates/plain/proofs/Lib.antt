@@ -1,4 +1,5 @@
 pub mod Going
+pub mod Counting
 pub mod Seeing
 pub mod Timing
 pub mod Turning

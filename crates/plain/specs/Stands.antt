@@ -13,7 +13,7 @@ use Rattle.device.specs.Talk.{sendsIn}
 use Rattle.plain.specs.Goes.{Goes, partOf, movedOf}
 use Rattle.plain.specs.Clocks.{wireAt, spokenOf, turnOf}
 use Rattle.plain.specs.Rooms.{Room, timersAt, baseOf}
-use Rattle.plain.specs.declared.awake.Went.{Went}
+use Rattle.plain.specs.declared.awake.Gone.{Gone}
 use Rattle.plain.specs.declared.clocks.Clocks.{Clocks}
 use Rattle.plain.specs.declared.clocks.Turn.{Turn}
 use Rattle.plain.specs.declared.rooms.Times.{Times}
@@ -40,7 +40,7 @@ pub record Clocked (sends : Bool) (base : ℕ) (es ls : List ℕ) (from : ℕ) (
       → Stands s es ls array row₀ first base t d m c row from → Stands s es ls array row₀ first base t d m c′ row′ to
 
 -- So does the outer loop.
-pub record Goes-on (kind : Kind) (select base : ℕ) (es ls array : List ℕ) (w : Went) (row : List ℕ) (w′ : Went) (row′ : List ℕ) : Type 0 where
+pub record Goes-on (kind : Kind) (select base : ℕ) (es ls array : List ℕ) (w : Gone) (row : List ℕ) (w′ : Gone) (row′ : List ℕ) : Type 0 where
   pub long : length row′ ≡ length row
   pub stands : (s : State) (row₀ : List ℕ) (first : ℕ) → kind ≡ kindOf (s .chip .part) → select ≡ s .chip .select
       → Stands s es ls array row₀ first base (w .times) (w .device) (w .load) (w .now) row (w .at)

@@ -25,12 +25,24 @@ ghost use Rattle.plain.specs.Stands.{Goes-on};
 
 // Where the loops stopped, and the sample before which they did. The talk's bits stand in `now`, its phase
 // in the device.
-pub struct Went {
+pub struct Gone {
     pub times: Times,
     pub device: Device,
     pub now: Clocks,
     pub load: Load,
     pub at: usize,
+}
+
+fn went(times: Times, device: Device, now: Clocks, load: Load, at: usize) -> Gone
+    ensures { λ r. ⌜ r ≡ record { times = times; device = device; now = now; load = load; at = at } ⌝ }
+{
+    Gone {
+        times,
+        device,
+        now,
+        load,
+        at,
+    }
 }
 
 // The device with the talk that the clocks have come to.
@@ -56,12 +68,12 @@ fn go_on(
     kind: Kind,
     select: u8,
     base: u8,
-    first: Went,
+    first: Gone,
     elapsed: &[u32],
     levels: &[u8],
     array: &[u8],
     row: &mut [u8],
-) -> Went
+) -> Gone
     requires { ⌜ length (now elapsed) ≡ length (now levels) ⌝ }
     requires { ⌜ length (now row) ≡ length (now levels) ⌝ }
     requires { ⌜ base ≤ 6 ⌝ }
@@ -134,13 +146,7 @@ fn go_on(
             }
         }
     }
-    Went {
-        times,
-        device,
-        now,
-        load,
-        at: i,
-    }
+    went(times, device, now, load, i)
 }
 
 pub fn pass(
@@ -167,17 +173,17 @@ pub fn pass(
     let device = s.device;
     let now = clocks::clocks_of(s.wire, device.talk, times.all);
     let load = s.load;
-    let first = Went {
+    let first = Gone {
         times,
         device,
         now,
         load,
         at: from,
     };
-    let went = go_on(kind, chip.select, base, first, elapsed, levels, array, row);
-    let end = went.now;
-    let timers = rooms::timers_at(before.hold, went.times, end.room);
+    let last = go_on(kind, chip.select, base, first, elapsed, levels, array, row);
+    let end = last.now;
+    let timers = rooms::timers_at(before.hold, last.times, end.room);
     let wire = clocks::wire_of(end);
-    let spoke = spoken(went.device, end);
-    crate::moved(s, timers, wire, spoke, went.load, went.at)
+    let spoke = spoken(last.device, end);
+    crate::moved(s, timers, wire, spoke, last.load, last.at)
 }

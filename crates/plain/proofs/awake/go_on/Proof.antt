@@ -9,6 +9,7 @@ use lib.ListN.{length, length-set}
 use Rattle.part.specs.Page.{emptyLoad}
 use Rattle.device.specs.Bytes.{keptOf}
 use Rattle.plain.specs.Stands.{Goes-on}
+use Rattle.plain.proofs.Counting.{next-less, next-fits, as-long}
 use Rattle.plain.proofs.Seeing.{never}
 use Rattle.plain.proofs.Clocking.{comes-eighth, comes-ninth, comes-start, comes-stop}
 use Rattle.plain.proofs.Arms.{kept-filled, kept-left, eighth-turn, ninth-turn, start-turn, stop-turn}
@@ -63,11 +64,11 @@ mul-e : tie.Need-mul-e Inv-loop μ-loop
 mul-e c =
     let es = c .before .before .before .before .before .before .before .before .before .before .args .elapsed .now in
     let at = c .before .loop in
-    let h : at .i < length es = omega (arith, c .loop-test .taken, at .inv .0) in
+    let h : at .i < length es = as-long _ _ _ (c .loop-test .taken) (at .inv .0) in
     scaled-fits (at .i) (length es) 4 h (c .before .before .before .before .before .before .before .before .before .before .good .1 .1 .1 .1 .0 .1)
 
 shared-slice-read-e : tie.Need-shared-slice-read-e Inv-loop μ-loop
-shared-slice-read-e c = omega (arith, c .before .loop-test .taken, c .before .before .loop .inv .0)
+shared-slice-read-e c = as-long _ _ _ (c .before .loop-test .taken) (c .before .before .loop .inv .0)
 
 shared-slice-read-level : tie.Need-shared-slice-read-level Inv-loop μ-loop
 shared-slice-read-level c = search needs
@@ -129,13 +130,13 @@ said-requires c κs = c .before .before .before .before .before .before .before 
 slice-write-row : tie.Need-slice-write-row Inv-loop μ-loop
 slice-write-row c =
     let inv = c .before .before .before .before .before .before .before .before .before .before .before .before .before .loop .inv in
-    omega (arith, c .before .before .before .before .before .before .before .before .before .before .before .before .loop-test .taken, inv .1, inv .2 .long)
+    as-long _ _ _ (c .before .before .before .before .before .before .before .before .before .before .before .before .loop-test .taken) (inv .2 .long ∙ inv .1)
 
 add-i : tie.Need-add-i Inv-loop μ-loop
-add-i c = omega (arith, c .before .before .before .before .before .before .before .before .before .before .before .before .loop-test .taken, c .before .before .before .before .before .before .before .before .before .before .before .before .before .before .before .before .before .before .before .before .before .before .good .1 .1 .1 .1 .1 .0 .0)
+add-i c = next-fits _ _ (c .before .before .before .before .before .before .before .before .before .before .before .before .loop-test .taken) (c .before .before .before .before .before .before .before .before .before .before .before .before .before .before .before .before .before .before .before .before .before .before .good .1 .1 .1 .1 .1 .0 .0)
 
 loop-less-2 : tie.Need-loop-less-2 Inv-loop μ-loop
-loop-less-2 c = omega (arith, c .before .before .before .before .before .before .before .before .before .before .before .before .loop-test .taken)
+loop-less-2 c = next-less _ _ (c .before .before .before .before .before .before .before .before .before .before .before .before .loop-test .taken)
 
 loop-again-2 : tie.Need-loop-again-2 Inv-loop μ-loop
 loop-again-2 c =
@@ -164,13 +165,13 @@ said-requires-2 c κs = c .before .before .before .before .before .before .befor
 slice-write-row-2 : tie.Need-slice-write-row-2 Inv-loop μ-loop
 slice-write-row-2 c =
     let inv = c .before .before .before .before .before .before .before .before .before .before .loop .inv in
-    omega (arith, c .before .before .before .before .before .before .before .before .before .loop-test .taken, inv .1, inv .2 .long)
+    as-long _ _ _ (c .before .before .before .before .before .before .before .before .before .loop-test .taken) (inv .2 .long ∙ inv .1)
 
 add-i-2 : tie.Need-add-i-2 Inv-loop μ-loop
-add-i-2 c = omega (arith, c .before .before .before .before .before .before .before .before .before .loop-test .taken, c .before .before .before .before .before .before .before .before .before .before .before .before .before .before .before .before .before .before .before .good .1 .1 .1 .1 .1 .0 .0)
+add-i-2 c = next-fits _ _ (c .before .before .before .before .before .before .before .before .before .loop-test .taken) (c .before .before .before .before .before .before .before .before .before .before .before .before .before .before .before .before .before .before .before .good .1 .1 .1 .1 .1 .0 .0)
 
 loop-less-3 : tie.Need-loop-less-3 Inv-loop μ-loop
-loop-less-3 c = omega (arith, c .before .before .before .before .before .before .before .before .before .loop-test .taken)
+loop-less-3 c = next-less _ _ (c .before .before .before .before .before .before .before .before .before .loop-test .taken)
 
 loop-again-3 : tie.Need-loop-again-3 Inv-loop μ-loop
 loop-again-3 c =
@@ -204,13 +205,13 @@ said-requires-3 c κs = c .before .before .before .before .before .before .befor
 slice-write-row-3 : tie.Need-slice-write-row-3 Inv-loop μ-loop
 slice-write-row-3 c =
     let inv = c .before .before .before .before .before .before .before .before .before .before .before .before .before .before .loop .inv in
-    omega (arith, c .before .before .before .before .before .before .before .before .before .before .before .before .before .loop-test .taken, inv .1, inv .2 .long)
+    as-long _ _ _ (c .before .before .before .before .before .before .before .before .before .before .before .before .before .loop-test .taken) (inv .2 .long ∙ inv .1)
 
 add-i-3 : tie.Need-add-i-3 Inv-loop μ-loop
-add-i-3 c = omega (arith, c .before .before .before .before .before .before .before .before .before .before .before .before .before .loop-test .taken, c .before .before .before .before .before .before .before .before .before .before .before .before .before .before .before .before .before .before .before .before .before .before .before .good .1 .1 .1 .1 .1 .0 .0)
+add-i-3 c = next-fits _ _ (c .before .before .before .before .before .before .before .before .before .before .before .before .before .loop-test .taken) (c .before .before .before .before .before .before .before .before .before .before .before .before .before .before .before .before .before .before .before .before .before .before .before .good .1 .1 .1 .1 .1 .0 .0)
 
 loop-less-4 : tie.Need-loop-less-4 Inv-loop μ-loop
-loop-less-4 c = omega (arith, c .before .before .before .before .before .before .before .before .before .before .before .before .before .loop-test .taken)
+loop-less-4 c = next-less _ _ (c .before .before .before .before .before .before .before .before .before .before .before .before .before .loop-test .taken)
 
 loop-again-4 : tie.Need-loop-again-4 Inv-loop μ-loop
 loop-again-4 c =
@@ -239,13 +240,13 @@ said-requires-4 c κs = c .before .before .before .before .before .before .befor
 slice-write-row-4 : tie.Need-slice-write-row-4 Inv-loop μ-loop
 slice-write-row-4 c =
     let inv = c .before .before .before .before .before .before .before .before .before .before .before .before .before .loop .inv in
-    omega (arith, c .before .before .before .before .before .before .before .before .before .before .before .before .loop-test .taken, inv .1, inv .2 .long)
+    as-long _ _ _ (c .before .before .before .before .before .before .before .before .before .before .before .before .loop-test .taken) (inv .2 .long ∙ inv .1)
 
 add-i-4 : tie.Need-add-i-4 Inv-loop μ-loop
-add-i-4 c = omega (arith, c .before .before .before .before .before .before .before .before .before .before .before .before .loop-test .taken, c .before .before .before .before .before .before .before .before .before .before .before .before .before .before .before .before .before .before .before .before .before .before .good .1 .1 .1 .1 .1 .0 .0)
+add-i-4 c = next-fits _ _ (c .before .before .before .before .before .before .before .before .before .before .before .before .loop-test .taken) (c .before .before .before .before .before .before .before .before .before .before .before .before .before .before .before .before .before .before .before .before .before .before .good .1 .1 .1 .1 .1 .0 .0)
 
 loop-less-5 : tie.Need-loop-less-5 Inv-loop μ-loop
-loop-less-5 c = omega (arith, c .before .before .before .before .before .before .before .before .before .before .before .before .loop-test .taken)
+loop-less-5 c = next-less _ _ (c .before .before .before .before .before .before .before .before .before .before .before .before .loop-test .taken)
 
 loop-again-5 : tie.Need-loop-again-5 Inv-loop μ-loop
 loop-again-5 c =
@@ -257,23 +258,14 @@ loop-again-5 c =
 enum-told-6 : tie.Need-enum-told-6 Inv-loop μ-loop
 enum-told-6 c = search needs
 
+went-requires : tie.Need-went-requires Inv-loop μ-loop
+went-requires c κs = tt
+
 same-length : tie.Need-same-length Inv-loop μ-loop
-same-length c = c .before .loop .inv .2 .long
+same-length c = c .before .before .loop .inv .2 .long
 
 returns : tie.Need-returns Inv-loop μ-loop
-returns c = c .before .loop .inv .2
-
-same-length-2 : tie.Need-same-length-2 Inv-loop μ-loop
-same-length-2 c = c .before .before .before .before .before .before .before .before .before .loop .inv .2 .long
-
-returns-2 : tie.Need-returns-2 Inv-loop μ-loop
-returns-2 c = c .before .before .before .before .before .before .before .before .before .loop .inv .2
-
-same-length-3 : tie.Need-same-length-3 Inv-loop μ-loop
-same-length-3 c = c .before .before .before .before .before .before .loop .inv .2 .long
-
-returns-3 : tie.Need-returns-3 Inv-loop μ-loop
-returns-3 c = c .before .before .before .before .before .before .loop .inv .2
+returns c = rw (c .went .ensures) (c .before .before .loop .inv .2)
 
 pub go-on-spec : {M : Type 1} → statement M
 go-on-spec =
@@ -335,9 +327,6 @@ go-on-spec =
     loop-less-5
     loop-again-5
     enum-told-6
+    went-requires
     same-length
-    returns
-    same-length-2
-    returns-2
-    same-length-3
-    returns-3)
+    returns)

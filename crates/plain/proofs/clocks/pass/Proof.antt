@@ -16,6 +16,7 @@ use Rattle.plain.specs.Stands.{Stands}
 use Rattle.plain.specs.declared.clocks.Clocks.{Clocks}
 use Rattle.plain.specs.declared.clocks.Turn.{Turn}
 use Rattle.plain.specs.declared.rooms.Times.{Times}
+use Rattle.plain.proofs.Counting.{next-less, next-fits, as-long}
 use Rattle.plain.proofs.Clocking.{comes-plain}
 use Rattle.plain.proofs.Arms.{plain-turn}
 use Rattle.plain.proofs.clocks.pass.Statement.{statement}
@@ -54,11 +55,11 @@ mul-e : tie.Need-mul-e Inv-loop μ-loop
 mul-e c =
     let es = c .before .before .before .before .before .args .elapsed .now in
     let at = c .before .loop in
-    let h : at .i < length es = omega (arith, c .loop-test .taken, at .inv .0) in
+    let h : at .i < length es = as-long _ _ _ (c .loop-test .taken) (at .inv .0) in
     scaled-fits (at .i) (length es) 4 h (c .before .before .before .before .before .good .1 .1 .1 .0 .1)
 
 shared-slice-read-e : tie.Need-shared-slice-read-e Inv-loop μ-loop
-shared-slice-read-e c = omega (arith, c .before .loop-test .taken, c .before .before .loop .inv .0)
+shared-slice-read-e c = as-long _ _ _ (c .before .loop-test .taken) (c .before .before .loop .inv .0)
 
 shared-slice-read-level : tie.Need-shared-slice-read-level Inv-loop μ-loop
 shared-slice-read-level c = search needs
@@ -78,13 +79,13 @@ said-requires c κs = c .before .before .before .before .before .before .before 
 slice-write-row : tie.Need-slice-write-row Inv-loop μ-loop
 slice-write-row c =
     let inv = c .before .before .before .before .before .before .before .before .loop .inv in
-    omega (arith, c .before .before .before .before .before .before .before .loop-test .taken, inv .1, inv .2 .long)
+    as-long _ _ _ (c .before .before .before .before .before .before .before .loop-test .taken) (inv .2 .long ∙ inv .1)
 
 add-i : tie.Need-add-i Inv-loop μ-loop
-add-i c = omega (arith, c .before .before .before .before .before .before .before .loop-test .taken, c .before .before .before .before .before .before .before .before .before .before .before .before .good .1 .1 .1 .1 .0 .0)
+add-i c = next-fits _ _ (c .before .before .before .before .before .before .before .loop-test .taken) (c .before .before .before .before .before .before .before .before .before .before .before .before .good .1 .1 .1 .1 .0 .0)
 
 loop-less : tie.Need-loop-less Inv-loop μ-loop
-loop-less c = omega (arith, c .before .before .before .before .before .before .before .loop-test .taken)
+loop-less c = next-less _ _ (c .before .before .before .before .before .before .before .loop-test .taken)
 
 loop-again : tie.Need-loop-again Inv-loop μ-loop
 loop-again c =

@@ -7,6 +7,7 @@ use borrow.Author.Needs.{needs, scaled-fits}
 use lib.ListN.{length, length-set}
 use Rattle.plain.specs.Rooms.{baseOf}
 use Rattle.plain.specs.Dark.{Dims}
+use Rattle.plain.proofs.Counting.{next-less, next-fits, as-long}
 use Rattle.plain.proofs.Going.{goes-none}
 use Rattle.plain.proofs.Darkness.{dark-goes}
 use Rattle.plain.proofs.dark.go_on.Statement.{statement}
@@ -36,11 +37,11 @@ mul-less : tie.Need-mul-less Inv-loop μ-loop
 mul-less c =
     let es = c .before .before .before .before .before .before .before .before .before .args .elapsed .now in
     let at = c .before .before .before .before .loop in
-    let h : at .i < length es = omega (arith, c .before .before .before .loop-test .taken, at .inv .0) in
+    let h : at .i < length es = as-long _ _ _ (c .before .before .before .loop-test .taken) (at .inv .0) in
     scaled-fits (at .i) (length es) 4 h (c .before .before .before .before .before .before .before .before .before .good .1 .1 .0 .1)
 
 shared-slice-read-less : tie.Need-shared-slice-read-less Inv-loop μ-loop
-shared-slice-read-less c = omega (arith, c .before .before .before .before .loop-test .taken, c .before .before .before .before .before .loop .inv .0)
+shared-slice-read-less c = as-long _ _ _ (c .before .before .before .before .loop-test .taken) (c .before .before .before .before .before .loop .inv .0)
 
 less-requires : tie.Need-less-requires Inv-loop μ-loop
 less-requires c κs = tt
@@ -60,13 +61,13 @@ said-requires c κs = c .base-of .ensures .1
 slice-write-row : tie.Need-slice-write-row Inv-loop μ-loop
 slice-write-row c =
     let inv = c .before .before .before .before .before .before .before .before .before .before .loop .inv in
-    omega (arith, c .before .before .before .before .before .before .before .before .before .loop-test .taken, inv .1, inv .2 .long)
+    as-long _ _ _ (c .before .before .before .before .before .before .before .before .before .loop-test .taken) (inv .2 .long ∙ inv .1)
 
 add-i : tie.Need-add-i Inv-loop μ-loop
-add-i c = omega (arith, c .before .before .before .before .before .before .before .before .before .loop-test .taken, c .before .before .before .before .before .before .before .before .before .before .before .before .before .before .before .good .1 .1 .1 .0 .0)
+add-i c = next-fits _ _ (c .before .before .before .before .before .before .before .before .before .loop-test .taken) (c .before .before .before .before .before .before .before .before .before .before .before .before .before .before .before .good .1 .1 .1 .0 .0)
 
 loop-less : tie.Need-loop-less Inv-loop μ-loop
-loop-less c = omega (arith, c .before .before .before .before .before .before .before .before .before .loop-test .taken)
+loop-less c = next-less _ _ (c .before .before .before .before .before .before .before .before .before .loop-test .taken)
 
 loop-again : tie.Need-loop-again Inv-loop μ-loop
 loop-again c =
