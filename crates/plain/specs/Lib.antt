@@ -1,5 +1,1 @@
-pub mod Goes
-pub mod Rooms
-pub mod Clocks
-pub mod Stands
-pub mod Dark
+pub mod Awake

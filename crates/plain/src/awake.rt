@@ -1,10 +1,10 @@
 // Samples with VCC good and reset inactive in which no timer ends.
-use crate::Stand;
-use crate::clocks;
-use crate::clocks::Clocks;
-use crate::clocks::Turn;
-use crate::rooms;
-use crate::rooms::Times;
+use clocks::Stand;
+use clocks::rooms;
+use clocks::rooms::Times;
+use clocks::turns;
+use clocks::turns::Clocks;
+use clocks::turns::Turn;
 use device::bits;
 use device::bytes;
 use device::ends;
@@ -19,9 +19,9 @@ use part::state::Talk;
 ghost use mathlib.Core.Path.{_≡_};
 ghost use Prim.Native.Nat.{_≤_};
 ghost use lib.ListN.{length};
-ghost use Rattle.plain.specs.Goes.{Goes, partOf};
-ghost use Rattle.plain.specs.Clocks.{spokenOf};
-ghost use Rattle.plain.specs.Stands.{Goes-on};
+ghost use Rattle.clocks.specs.Goes.{Goes, partOf};
+ghost use Rattle.clocks.specs.Clocks.{spokenOf};
+ghost use Rattle.plain.specs.Awake.{Goes-on};
 
 // Where the loops stopped, and the sample before which they did. The talk's bits stand in `now`, its phase
 // in the device.
@@ -88,13 +88,13 @@ fn go_on(
     while i < levels.len() {
         let e = elapsed[i];
         let level = levels[i];
-        let turn = clocks::turn_of(now, e, level);
+        let turn = turns::turn_of(now, e, level);
         match turn {
             Turn::Plain => {
                 let talk = device.talk;
                 let phase = talk.phase;
                 let sends = bits::sends(phase);
-                let ran = clocks::pass(now, sends, base, elapsed, levels, row, i);
+                let ran = turns::pass(now, sends, base, elapsed, levels, row, i);
                 now = ran.now;
                 i = ran.at;
             }
@@ -109,13 +109,13 @@ fn go_on(
                     empty = false;
                 }
                 device = bytes::byte(kind, select, d, v);
-                now = clocks::fallen(now, device.talk, e, level);
+                now = turns::fallen(now, device.talk, e, level);
                 row[i] = rooms::said(now.own, base);
                 i += 1;
             }
             Turn::Ninth => {
                 device = bits::ninth(kind, array, now.bit, spoken(device, now));
-                now = clocks::fallen(now, device.talk, e, level);
+                now = turns::fallen(now, device.talk, e, level);
                 row[i] = rooms::said(now.own, base);
                 i += 1;
             }
@@ -127,7 +127,7 @@ fn go_on(
                 let control = device.control;
                 times = rooms::started(times, now.room - e, control.stored);
                 device = ends::start(0 < times.write, device);
-                now = clocks::cut(false, times.all);
+                now = turns::cut(false, times.all);
                 row[i] = rooms::said(true, base);
                 i += 1;
             }
@@ -137,7 +137,7 @@ fn go_on(
                     break;
                 }
                 device = ends::end(device);
-                now = clocks::cut(true, now.room - e);
+                now = turns::cut(true, now.room - e);
                 row[i] = rooms::said(true, base);
                 i += 1;
             }
@@ -171,7 +171,7 @@ pub fn pass(
     let base = rooms::base_of(kind.high, false, before.write);
     let times = rooms::times_of(before.write, before.watchdog);
     let device = s.device;
-    let now = clocks::clocks_of(s.wire, device.talk, times.all);
+    let now = turns::clocks_of(s.wire, device.talk, times.all);
     let load = s.load;
     let first = Gone {
         times,
@@ -183,7 +183,7 @@ pub fn pass(
     let last = go_on(kind, chip.select, base, first, elapsed, levels, array, row);
     let end = last.now;
     let timers = rooms::timers_at(before.hold, last.times, end.room);
-    let wire = clocks::wire_of(end);
+    let wire = turns::wire_of(end);
     let spoke = spoken(last.device, end);
-    crate::moved(s, timers, wire, spoke, last.load, last.at)
+    clocks::moved(s, timers, wire, spoke, last.load, last.at)
 }

@@ -2,38 +2,15 @@
 // something to do. The loops run on numbers and bools, so that the processor's registers hold what they
 // change; every other sample is left to `sample::steps::step`.
 mod awake;
-mod clocks;
-mod dark;
-mod rooms;
 
-use part::state::Device;
-use part::state::Load;
+use clocks::Stand;
 use part::state::State;
-use part::state::Timers;
-use part::state::Wire;
 use sample::answers;
 use sample::steps;
 ghost use mathlib.Core.Path.{_≡_};
 ghost use Prim.Native.Nat.{_≤_};
 ghost use lib.ListN.{length};
-ghost use Rattle.plain.specs.Goes.{Goes, partOf, movedOf};
-
-// A state, and the sample that comes next.
-pub struct Stand {
-    pub state: State,
-    pub at: usize,
-}
-
-fn moved(s: State, timers: Timers, wire: Wire, device: Device, load: Load, at: usize) -> Stand
-    ensures { λ r. ⌜ r ≡ record { state = movedOf s timers wire device load; at = at } ⌝ }
-{
-    let mut next = s;
-    next.timers = timers;
-    next.wire = wire;
-    next.device = device;
-    next.load = load;
-    Stand { state: next, at }
-}
+ghost use Rattle.clocks.specs.Goes.{Goes, partOf};
 
 // Goes on from the sample `from`, answers each sample that it passes, and may stop before any.
 pub fn ahead(

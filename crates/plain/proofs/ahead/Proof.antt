@@ -5,9 +5,9 @@ use native.Mathlib.Numerals.{add-one}
 use borrow.Author.Needs.{needs, scaled-fits}
 use lib.ListN.{length, getD, length-set}
 use Rattle.sample.specs.Run.{partStep}
-use Rattle.plain.specs.Goes.{partOf}
-use Rattle.plain.proofs.Going.{goes-none, goes-on, goes-then}
-use Rattle.plain.proofs.Darkness.{low-step, first-dark}
+use Rattle.clocks.specs.Goes.{partOf}
+use Rattle.clocks.proofs.Going.{goes-none, goes-on, goes-then}
+use Rattle.dark.proofs.Darkness.{low-step, first-dark}
 use Rattle.plain.proofs.ahead.Statement.{statement}
 use Rattle.plain.proofs.ahead.Tie as tie
 

@@ -8,11 +8,11 @@ use borrow.Author.Needs.{needs, scaled-fits}
 use lib.ListN.{length, length-set}
 use Rattle.part.specs.Page.{emptyLoad}
 use Rattle.device.specs.Bytes.{keptOf}
-use Rattle.plain.specs.Stands.{Goes-on}
-use Rattle.plain.proofs.Counting.{next-less, next-fits, as-long}
-use Rattle.plain.proofs.Seeing.{never}
-use Rattle.plain.proofs.Clocking.{comes-eighth, comes-ninth, comes-start, comes-stop}
-use Rattle.plain.proofs.Arms.{kept-filled, kept-left, eighth-turn, ninth-turn, start-turn, stop-turn}
+use Rattle.plain.specs.Awake.{Goes-on}
+use Rattle.clocks.proofs.Counting.{next-less, next-fits, as-long}
+use Rattle.clocks.proofs.Seeing.{never}
+use Rattle.clocks.proofs.Clocking.{comes-eighth, comes-ninth, comes-start, comes-stop}
+use Rattle.clocks.proofs.Arms.{kept-filled, kept-left, eighth-turn, ninth-turn, start-turn, stop-turn}
 use Rattle.plain.proofs.awake.go_on.Statement.{statement}
 use Rattle.plain.proofs.awake.go_on.Tie as tie
 

@@ -1,9 +1,9 @@
 -- `plain::awake::pass` meets its contract.
 use mathlib.Core.Bool.{Bool, true, false, _||_}
 use mathlib.Core.Path.{_≡_, refl, sym}
-use Rattle.plain.proofs.Going.{goes-none}
-use Rattle.plain.proofs.Seeing.{never}
-use Rattle.plain.proofs.Standing.{stands-first}
+use Rattle.clocks.proofs.Going.{goes-none}
+use Rattle.clocks.proofs.Seeing.{never}
+use Rattle.clocks.proofs.Standing.{stands-first}
 use Rattle.plain.proofs.awake.pass.Statement.{statement}
 use Rattle.plain.proofs.awake.pass.Tie as tie
 

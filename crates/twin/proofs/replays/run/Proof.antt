@@ -7,8 +7,8 @@ use borrow.Author.Needs.{needs, scaled-fits}
 use lib.ListN.{length}
 use Rattle.sample.specs.Run.{Part}
 use Rattle.sample.proofs.Runs.{run-done, row-done, stepped}
-use Rattle.plain.specs.Goes.{Goes, partOf}
-use Rattle.plain.proofs.Going.{goes-none, goes-on, goes-then}
+use Rattle.clocks.specs.Goes.{Goes, partOf}
+use Rattle.clocks.proofs.Going.{goes-none, goes-on, goes-then}
 use Rattle.twin.proofs.replays.run.Statement.{statement}
 use Rattle.twin.proofs.replays.run.Tie as tie
 

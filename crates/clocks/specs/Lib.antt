@@ -1,0 +1,4 @@
+pub mod Goes
+pub mod Rooms
+pub mod Clocks
+pub mod Stands

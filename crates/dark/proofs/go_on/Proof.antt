@@ -1,0 +1,121 @@
+-- `dark::go_on` meets its contract: before each sample a dark part stands where the samples so far have brought it.
+use Prim.Native.Nat.{ℕ, _+_, _-_, _<_}
+use mathlib.Core.Bool.{true}
+use mathlib.Core.Path.{_≡_, refl, sym, ap, _∙_}
+use native.Mathlib.Omega.{arith}
+use borrow.Author.Needs.{needs, scaled-fits}
+use lib.ListN.{length, length-set}
+use Rattle.clocks.specs.Rooms.{baseOf}
+use Rattle.dark.specs.Dark.{Dims}
+use Rattle.clocks.proofs.Counting.{next-less, next-fits, as-long}
+use Rattle.clocks.proofs.Going.{goes-none}
+use Rattle.dark.proofs.Darkness.{dark-goes}
+use Rattle.dark.proofs.go_on.Statement.{statement}
+use Rattle.dark.proofs.go_on.Tie as tie
+
+abbrev Inv-loop : tie.InvT-loop
+Inv-loop high elapsed levels row₀ write₀ lines₀ i₀ row write lines i =
+    (length elapsed ≡ length levels)
+    × (length row₀ ≡ length levels)
+    × Dims high elapsed levels (record { write = write₀; lines = lines₀; at = i₀ }) row₀ (record { write = write; lines = lines; at = i }) row
+
+abbrev μ-loop : tie.MeasureT-loop
+μ-loop high elapsed levels row₀ write₀ lines₀ i₀ row write lines i = length levels - i
+
+loop-holds : tie.Need-loop-holds Inv-loop μ-loop
+loop-holds c =
+    let pre = c .before .before .before .before .pre in
+    (pre .0, pre .1 .0, record { goes = λ s array h k. goes-none _ _ _ _ _ (pre .1 .1); long = refl })
+
+shared-slice-read-level : tie.Need-shared-slice-read-level Inv-loop μ-loop
+shared-slice-read-level c = search needs
+
+vcc-requires : tie.Need-vcc-requires Inv-loop μ-loop
+vcc-requires c κs = tt
+
+mul-less : tie.Need-mul-less Inv-loop μ-loop
+mul-less c =
+    let es = c .before .before .before .before .before .before .before .before .before .args .elapsed .now in
+    let at = c .before .before .before .before .loop in
+    let h : at .i < length es = as-long _ _ _ (c .before .before .before .loop-test .taken) (at .inv .0) in
+    scaled-fits (at .i) (length es) 4 h (c .before .before .before .before .before .before .before .before .before .good .1 .1 .0 .1)
+
+shared-slice-read-less : tie.Need-shared-slice-read-less Inv-loop μ-loop
+shared-slice-read-less c = as-long _ _ _ (c .before .before .before .before .loop-test .taken) (c .before .before .before .before .before .loop .inv .0)
+
+less-requires : tie.Need-less-requires Inv-loop μ-loop
+less-requires c κs = tt
+
+scl-requires : tie.Need-scl-requires Inv-loop μ-loop
+scl-requires c κs = tt
+
+sda-requires : tie.Need-sda-requires Inv-loop μ-loop
+sda-requires c κs = tt
+
+base-of-requires : tie.Need-base-of-requires Inv-loop μ-loop
+base-of-requires c κs = tt
+
+said-requires : tie.Need-said-requires Inv-loop μ-loop
+said-requires c κs = c .base-of .ensures .1
+
+slice-write-row : tie.Need-slice-write-row Inv-loop μ-loop
+slice-write-row c =
+    let inv = c .before .before .before .before .before .before .before .before .before .before .loop .inv in
+    as-long _ _ _ (c .before .before .before .before .before .before .before .before .before .loop-test .taken) (inv .2 .long ∙ inv .1)
+
+add-i : tie.Need-add-i Inv-loop μ-loop
+add-i c = next-fits _ _ (c .before .before .before .before .before .before .before .before .before .loop-test .taken) (c .before .before .before .before .before .before .before .before .before .before .before .before .before .before .before .good .1 .1 .1 .0 .0)
+
+loop-less : tie.Need-loop-less Inv-loop μ-loop
+loop-less c = next-less _ _ (c .before .before .before .before .before .before .before .before .before .loop-test .taken)
+
+loop-again : tie.Need-loop-again Inv-loop μ-loop
+loop-again c =
+    let at = c .before .before .before .before .before .before .before .before .before .before .loop in
+    let inv = at .inv .2 in
+    let v = sym (c .before .before .before .before .before .before .before .vcc .ensures) ∙ c .before .before .before .before .before .before .if1 .left in
+    let said = c .said .ensures ∙ ap (λ (n : ℕ). 1 + n) (c .before .base-of .ensures .0) in (
+      at .inv .0,
+      at .inv .1,
+      record {
+        goes = λ s array h k. rw (c .before .before .sda .ensures, c .before .before .before .scl .ensures, c .before .before .before .before .less .ensures) (dark-goes s h (inv .goes s array h k) (at .inv .0) (at .inv .1) (c .before .before .before .before .before .before .before .before .before .loop-test .taken) v k (said ∙ ap (λ (n : ℕ). 1 + baseOf (c .before .before .before .before .before .before .before .before .before .before .before .before .before .before .before .args .high) true n) (c .before .before .before .before .less .ensures)));
+        long = simp length-set (inv .long);
+      },
+    )
+
+same-length : tie.Need-same-length Inv-loop μ-loop
+same-length c = c .before .loop .inv .2 .long
+
+returns : tie.Need-returns Inv-loop μ-loop
+returns c = c .before .loop .inv .2
+
+same-length-2 : tie.Need-same-length-2 Inv-loop μ-loop
+same-length-2 c = c .before .before .before .before .loop .inv .2 .long
+
+returns-2 : tie.Need-returns-2 Inv-loop μ-loop
+returns-2 c = c .before .before .before .before .loop .inv .2
+
+pub go-on-spec : {M : Type 1} → statement M
+go-on-spec =
+    tie.close
+    (tie.spec
+    Inv-loop
+    μ-loop
+    loop-holds
+    shared-slice-read-level
+    vcc-requires
+    mul-less
+    shared-slice-read-less
+    less-requires
+    scl-requires
+    sda-requires
+    base-of-requires
+    said-requires
+    slice-write-row
+    add-i
+    loop-less
+    loop-again
+    same-length
+    returns
+    same-length-2
+    returns-2)

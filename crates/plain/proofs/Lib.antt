@@ -1,9 +1,0 @@
-pub mod Going
-pub mod Counting
-pub mod Seeing
-pub mod Timing
-pub mod Turning
-pub mod Standing
-pub mod Clocking
-pub mod Arms
-pub mod Darkness
