@@ -18,7 +18,7 @@ use Rattle.part.specs.State.{withControl}
 use Rattle.device.specs.Ends.{endedOf}
 use Rattle.sample.specs.Sample.{latchedBy}
 use Rattle.clocks.specs.Goes.{Goes, partOf, movedOf}
-use Rattle.dark.specs.declared.dark.Dim.{Dim}
+use Rattle.dark.specs.declared.Dim.{Dim}
 
 -- The timers while VCC is low, but for the write time.
 abbrev pub heldAt : ℕ → Watchdog → Timers
