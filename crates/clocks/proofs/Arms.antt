@@ -28,7 +28,7 @@ use Rattle.control.specs.declared.Order.the-variants.{Nothing}
 use Rattle.device.specs.Talk.{sendsIn, rested}
 use Rattle.device.specs.Bytes.{byteOf, keptBy, keptOf, Fills, ninthOf}
 use Rattle.device.specs.Ends.{startedOf, stoppedOf, endedOf}
-use Rattle.sample.specs.Level.{sclOf, sdaOf, wpOf, vccOf, pinBy}
+use Rattle.levels.specs.Level.{sclOf, sdaOf, wpOf, vccOf, pinBy}
 use Rattle.part.specs.State.{withWatchdog}
 use Rattle.sample.specs.Sample.{startOf, heardBy, writtenBy, stopOf, byteStep}
 use Rattle.sample.specs.Run.{Part, partStep}

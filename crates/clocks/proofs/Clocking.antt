@@ -13,7 +13,7 @@ use Rattle.part.specs.State.{withTalk}
 use Rattle.device.specs.Talk.{sendsIn, shiftedOf}
 use Rattle.device.specs.Bytes.{bitOf}
 use Rattle.device.proofs.Phases.{bit-stays, bit-sent}
-use Rattle.sample.specs.Level.{sclOf, vccOf}
+use Rattle.levels.specs.Level.{sclOf, vccOf}
 use Rattle.clocks.specs.Clocks.{wireAt, spokenOf, lineAt, seenAt, turnBy, turnWhen, turnOf, Comes, smallBy, Turned}
 use Rattle.clocks.specs.declared.turns.Clocks.{Clocks}
 use Rattle.clocks.specs.declared.turns.Turn.{Turn}

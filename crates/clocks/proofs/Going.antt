@@ -4,7 +4,7 @@ use mathlib.Core.List.{List}
 use mathlib.Core.Path.{_≡_, refl, _∙_}
 use native.Mathlib.Omega.{arith}
 use lib.ListN.{length, getD, set, length-set}
-use Rattle.sample.specs.Level.{answerOf}
+use Rattle.levels.specs.Level.{answerOf}
 use Rattle.sample.specs.Run.{Part, partStep}
 use Rattle.sample.proofs.Runs.{run-turn, row-turn}
 use Rattle.clocks.specs.Goes.{Goes}

@@ -15,7 +15,7 @@ use Rattle.part.specs.declared.state.Device.{Device}
 use Rattle.part.specs.declared.state.Load.{Load}
 use Rattle.part.specs.declared.state.State.{State}
 use Rattle.wire.specs.declared.Sign.{Sign}
-use Rattle.sample.specs.Level.{sclOf, sdaOf, wpOf, vccOf, answerOf}
+use Rattle.levels.specs.Level.{sclOf, sdaOf, wpOf, vccOf, answerOf}
 use Rattle.sample.specs.Sample.{heardBy, writtenBy}
 use Rattle.sample.specs.Run.{Part, partStep}
 use Rattle.clocks.specs.Goes.{Goes, partOf, movedOf}

@@ -11,7 +11,7 @@ use Rattle.part.specs.declared.state.Load.{Load}
 use Rattle.part.specs.declared.state.State.{State}
 use Rattle.wire.specs.declared.Sign.{Sign}
 use Rattle.wire.specs.Sign.{signOf, wireOf}
-use Rattle.sample.specs.Level.{sclOf, sdaOf, wpOf, vccOf}
+use Rattle.levels.specs.Level.{sclOf, sdaOf, wpOf, vccOf}
 use Rattle.sample.specs.Sample.{opensOf, heardBy, writtenBy, signIn, wiredOf, stepOf, arrayOf}
 use Rattle.sample.specs.Run.{Part, partStep}
 use Rattle.sample.proofs.Sampled.{step-heard, array-heard}

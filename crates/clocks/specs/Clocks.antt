@@ -13,7 +13,7 @@ use Rattle.wire.specs.declared.Sign.the-variants.{Quiet, Start, Stop, Bit, Byte
 use Rattle.part.specs.State.{withTalk}
 use Rattle.device.specs.Talk.{rested, sendsIn}
 use Rattle.device.specs.Bytes.{bitOf}
-use Rattle.sample.specs.Level.{sclOf, sdaOf, vccOf}
+use Rattle.levels.specs.Level.{sclOf, sdaOf, vccOf}
 use Rattle.clocks.specs.declared.turns.Clocks.{Clocks}
 use Rattle.clocks.specs.declared.turns.Turn.{Turn}
 

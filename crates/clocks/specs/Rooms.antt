@@ -6,7 +6,7 @@ use lib.Dec.{ltb}
 use Rattle.ground.specs.Cases.{orZero}
 use Rattle.part.specs.declared.state.Timers.{Timers}
 use Rattle.part.specs.declared.state.Watchdog.{Watchdog}
-use Rattle.sample.specs.Level.{pinBy}
+use Rattle.levels.specs.Level.{pinBy}
 use Rattle.clocks.specs.declared.rooms.Times.{Times}
 
 -- A time that neither a write cycle nor the watchdog ends within.

@@ -1,9 +1,9 @@
 // Time while no timer ends, and the answer byte.
 use ground::cases;
+use levels::answers;
 use part::state::Timers;
 use part::state::Watchdog;
 use part::timers;
-use sample::answers;
 ghost use mathlib.Core.Path.{_≡_};
 ghost use mathlib.Core.Bool.{Bool};
 ghost use Prim.Native.Nat.{_+_, _-_, _≤_};

@@ -1,11 +1,11 @@
 // The clocks of a byte: samples that show no more than a bit below the eighth.
 use crate::rooms;
 use device::bits;
+use levels::answers;
 use part::state::Frame;
 use part::state::Lines;
 use part::state::Talk;
 use part::state::Wire;
-use sample::answers;
 ghost use mathlib.Core.Path.{_≡_};
 ghost use mathlib.Core.Bool.{Bool};
 ghost use Prim.Native.Nat.{_≤_};

@@ -19,7 +19,7 @@ use Rattle.part.specs.declared.state.Load.{Load}
 use Rattle.part.specs.declared.state.State.{State}
 use Rattle.wire.specs.Sign.{cleanFrame}
 use Rattle.device.specs.Ends.{endedOf}
-use Rattle.sample.specs.Level.{sclOf, sdaOf, vccOf, answerOf, pinBy}
+use Rattle.levels.specs.Level.{sclOf, sdaOf, vccOf, answerOf, pinBy}
 use Rattle.sample.specs.Sample.{opensOf, resetOf, stepOf, arrayOf}
 use Rattle.sample.specs.Run.{Part, partStep}
 use Rattle.sample.proofs.Sampled.{step-reset, array-reset}

@@ -2,10 +2,10 @@
 use clocks::Stand;
 use clocks::rooms;
 use ground::kinds;
+use levels::answers;
 use part::state::Lines;
 use part::state::State;
 use part::timers;
-use sample::answers;
 ghost use mathlib.Core.Path.{_≡_};
 ghost use mathlib.Core.Bool.{Bool};
 ghost use Prim.Native.Nat.{_≤_};

@@ -13,7 +13,7 @@ use borrow.Author.Tests.{eq-eqb, le-leb, eqb-true, leb-true}
 use Rattle.ground.specs.Numbers.{mostElapsed, mostLevel, mostSamples}
 use Rattle.ground.specs.Kind.{kindOf}
 use Rattle.part.specs.declared.state.State.{State}
-use Rattle.sample.specs.Level.{answerOf}
+use Rattle.levels.specs.Level.{answerOf}
 use Rattle.ground.specs.Verdict.{Verdict, accepted, meant}
 use Rattle.refusals.specs.Refusals.{sampleBy, samplesOf, judgedBy, judgedOf, inRange}
 use Rattle.ground.specs.declared.Reply.the-variants.{Accepted}

@@ -11,7 +11,7 @@ use mathlib.Core.Path.{_≡_}
 use lib.ListN.{length, getD, take}
 use Rattle.ground.specs.Numbers.{mostSamples}
 use Rattle.part.specs.declared.state.State.{State}
-use Rattle.sample.specs.Level.{answerOf}
+use Rattle.levels.specs.Level.{answerOf}
 use Rattle.ground.specs.Verdict.{accepted}
 use Rattle.refusals.specs.Refusals.{judgedOf}
 use Rattle.ground.specs.declared.Reply.the-variants.{Accepted}

@@ -12,7 +12,7 @@ use native.Mathlib.Omega.{arith}
 use lib.ListN.{getD}
 use borrow.Author.Tests.{eqb-true, not-false}
 use Rattle.part.specs.declared.state.State.{State}
-use Rattle.sample.specs.Level.{answerOf}
+use Rattle.levels.specs.Level.{answerOf}
 use Rattle.sample.specs.Sample.{stepOf, arrayOf}
 use Rattle.sample.specs.Run.{Part, partStep, runOf, answersOf}
 use Rattle.demand3.specs.Sending.{Sent, nothing, sentOf}

@@ -5,7 +5,7 @@ use mathlib.Core.Bool.{Bool, true, false, _&&_}
 use mathlib.Core.List.{List, [], _∷_}
 use lib.Dec.{eqb}
 use lib.ListN.{take}
-use Rattle.sample.specs.Level.{answerOf}
+use Rattle.levels.specs.Level.{answerOf}
 use Rattle.sample.specs.Run.{Part}
 use Rattle.demand3.specs.Sending.{nothing}
 use Rattle.demand3.specs.Differ.{When, never, sample, firstReach, firstDiff, firstCover}

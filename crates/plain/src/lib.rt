@@ -4,8 +4,8 @@
 mod awake;
 
 use clocks::Stand;
+use levels::answers;
 use part::state::State;
-use sample::answers;
 use sample::steps;
 ghost use mathlib.Core.Path.{_≡_};
 ghost use Prim.Native.Nat.{_≤_};

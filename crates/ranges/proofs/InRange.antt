@@ -36,7 +36,7 @@ use Rattle.refusals.specs.Refusals.{storable, timersInRange, inRange}
 use Rattle.device.specs.Talk.{addressOf, matches}
 use Rattle.device.specs.Bytes.{slaveBy, slaveOf, highOf, addressBy, lowOf, takenOf, dataBy, registerBy, byteIn, byteOf, keptOf, bitIn, bitOf, answeredBy, ninthIn, ninthOf}
 use Rattle.device.specs.Ends.{startedOf, stoppedOf, endedOf}
-use Rattle.sample.specs.Level.{sclOf, wpOf, vccOf}
+use Rattle.levels.specs.Level.{sclOf, wpOf, vccOf}
 use Rattle.part.specs.State.{withTimers, withWire, withDevice, withLoad}
 use Rattle.sample.specs.Sample.{begun, latchedBy, opensOf, resetOf, startOf, stopOf, byteStep, heardBy, lineOf, signIn, wiredOf, Seen, unseen, sees, seenBy, seenOf, goesOnBy, stepOf}
 use Rattle.sample.proofs.Sampled.{array-length}

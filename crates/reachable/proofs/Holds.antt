@@ -25,7 +25,7 @@ use Rattle.wire.specs.declared.Sign.{Sign}
 use Rattle.wire.specs.declared.Sign.the-variants.{Quiet, Start, Stop, Bit, Byte, Ninth}
 use Rattle.device.specs.Bytes.{takenOf, dataBy, byteIn, byteOf, keptBy, expectsData, keptOf, bitOf, ninthOf}
 use Rattle.device.proofs.Phases.{bit-stays, ninth-releases}
-use Rattle.sample.specs.Level.{sclOf, sdaOf, wpOf}
+use Rattle.levels.specs.Level.{sclOf, sdaOf, wpOf}
 use Rattle.sample.specs.Sample.{opensOf, resetOf, startOf, stopOf, byteStep, heardBy, lineOf, signIn, wiredOf, Seen, unseen, sees, seenOf, goesOnBy, stepOf}
 use Rattle.sample.specs.Run.{Part, partStep}
 use Rattle.reachable.specs.Reachable.{Reachable, Holds}

@@ -10,7 +10,7 @@ use Rattle.refusals.specs.Refusals.{inRange, judgedOf}
 use Rattle.control.specs.Register.{orderOf, carriedOut}
 use Rattle.device.specs.Bytes.{slaveOf, highOf, lowOf, takenOf, byteOf, keptOf, bitOf, ninthOf}
 use Rattle.device.specs.Ends.{startedOf, stoppedOf, endedOf}
-use Rattle.sample.specs.Level.{answerOf}
+use Rattle.levels.specs.Level.{answerOf}
 use Rattle.sample.specs.Sample.{opensOf, resetOf, startOf, stopOf, byteStep, signIn, seenOf, wiredOf, stepOf, arrayOf}
 use Rattle.sample.specs.Run.{partStep}
 use Rattle.twin.specs.Power.{poweredUp}

@@ -9,7 +9,7 @@ use Rattle.part.specs.declared.state.Timers.{Timers}
 use Rattle.wire.specs.declared.Sign.{Sign}
 use Rattle.wire.specs.declared.Sign.the-variants.{Quiet, Start, Stop, Bit, Byte, Ninth}
 use Rattle.sample.specs.Sample.{begun, opensOf, resetOf, startOf, stopOf, byteStep, heardBy, signIn, wiredOf, Seen, unseen, sees, seenOf, goesOnBy, stepOf}
-use Rattle.sample.specs.Level.{wpOf}
+use Rattle.levels.specs.Level.{wpOf}
 
 -- The sign, and the phase that it meets.
 pub same-sign : (e level : ℕ) (s : State) → signIn level (opensOf e level s) ≡ signIn level s

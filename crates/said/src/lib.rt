@@ -1,8 +1,8 @@
 // What one sample says, as entries: its sign, and where reset and a write cycle begin and end.
 use entries::Entry;
 use entries::Told;
+use levels::answers;
 use part::state::State;
-use sample::answers;
 ghost use mathlib.Core.Path.{_≡_};
 ghost use Prim.Native.Nat.{_+_, _≤_};
 ghost use Rattle.entries.specs.Entries.{Says};

@@ -11,7 +11,7 @@ use Rattle.part.specs.declared.state.State.{State}
 use Rattle.part.proofs.Store.{store-length}
 use Rattle.wire.specs.declared.Sign.{Sign}
 use Rattle.wire.specs.declared.Sign.the-variants.{Quiet, Start, Stop, Bit, Byte, Ninth}
-use Rattle.sample.specs.Level.{wpOf}
+use Rattle.levels.specs.Level.{wpOf}
 use Rattle.sample.specs.Sample.{opensOf, resetOf, heardBy, savedBy, writtenBy, signIn, wiredOf, Seen, unseen, sees, seenBy, seenOf, goesOnBy, stepOf, keepsBy, arrayOf}
 
 module _ (e level : ℕ) (array : List ℕ) (s : State) where

@@ -1,4 +1,3 @@
-pub mod Level
 pub mod Sample
 pub mod Promises
 pub mod Run

@@ -2,7 +2,7 @@
 use Prim.Native.Nat.{ℕ}
 use mathlib.Core.List.{List, [], _∷_}
 use Rattle.part.specs.declared.state.State.{State}
-use Rattle.sample.specs.Level.{answerOf}
+use Rattle.levels.specs.Level.{answerOf}
 use Rattle.sample.specs.Sample.{stepOf, arrayOf}
 
 -- A part on the bench: its state, and the array beside it.

@@ -20,7 +20,7 @@ use Rattle.control.specs.Register.{orderOf, takesTime}
 use Rattle.control.specs.declared.Order.{Order}
 use Rattle.device.specs.Bytes.{byteOf, keptOf, bitOf, ninthOf}
 use Rattle.device.specs.Ends.{startedOf, stoppedOf, endedOf}
-use Rattle.sample.specs.Level.{sclOf, sdaOf, wpOf, vccOf}
+use Rattle.levels.specs.Level.{sclOf, sdaOf, wpOf, vccOf}
 
 -- The timers with a write cycle begun, or as they were (Bytes on the wire, stop; Control register, RWEL high).
 abbrev pub begun : Bool → Timers → Timers

@@ -1,3 +1,2 @@
-// One sample: what it does to the state and the array, and the answer that goes out after it.
-pub mod answers;
+// One sample: what it does to the state and the array.
 pub mod steps;

@@ -1,9 +1,9 @@
 // One sample, in the order of its four rules.
-use crate::answers;
 use device::bits;
 use device::bytes;
 use device::ends;
 use ground::kinds;
+use levels::answers;
 use part::page;
 use part::state::Control;
 use part::state::Lines;

@@ -1,8 +1,8 @@
 // Replay: refusals first, then sample by sample.
 use ground::Reply;
+use levels::answers;
 use part::state::State;
 use refusals::verdicts;
-use sample::answers;
 use sample::steps;
 ghost use mathlib.Core.Path.{_≡_};
 ghost use lib.ListN.{length};

@@ -25,7 +25,7 @@ use Rattle.part.specs.State.{withControl, withDevice, withTalk}
 use Rattle.device.specs.Talk.{sending}
 use Rattle.device.specs.Bytes.{byteOf, keptOf, bitOf, fetch, ninthIn, ninthOf}
 use Rattle.device.specs.Ends.{startedOf, stoppedOf, endedOf}
-use Rattle.sample.specs.Level.{sclOf, wpOf}
+use Rattle.levels.specs.Level.{sclOf, wpOf}
 use Rattle.sample.specs.Sample.{opensOf, resetOf, startOf, stopOf, byteStep, heardBy, lineOf, signIn, wiredOf, sees, seenBy, seenOf, goesOnBy, stepOf}
 use Rattle.sample.specs.Run.{Part}
 use Rattle.demand3.specs.Sending.{Sent, nothing, sends, sendsArray, fetchedBy, nextSent, sentBy, sentOf, bitFrom}

@@ -12,7 +12,7 @@ use Rattle.ground.specs.Cases.{orZero}
 use Rattle.ground.specs.Kind.{kindOf}
 use Rattle.part.specs.Timers.{writes}
 use Rattle.part.specs.declared.state.State.{State}
-use Rattle.sample.specs.Level.{pinBy, answerOf}
+use Rattle.levels.specs.Level.{pinBy, answerOf}
 use Rattle.sample.specs.Sample.{stepOf}
 use Rattle.demand3.specs.Sending.{Sent, nothing, sends, sentOf, bitFrom}
 use Rattle.demand3.specs.Differ.{reaches, elsewhere, EqualBut, silenced}

@@ -24,7 +24,7 @@ use Rattle.part.proofs.Store.{store-length, store-at}
 use Rattle.wire.specs.declared.Sign.{Sign}
 use Rattle.wire.specs.declared.Sign.the-variants.{Quiet, Start, Stop, Bit, Byte, Ninth}
 use Rattle.device.specs.Bytes.{takenOf, keptBy, expectsData, keptOf}
-use Rattle.sample.specs.Level.{wpOf}
+use Rattle.levels.specs.Level.{wpOf}
 use Rattle.sample.specs.Sample.{opensOf, resetOf, startOf, stopOf, byteStep, heardBy, savedBy, writtenBy, signIn, wiredOf, Seen, unseen, sees, seenOf, goesOnBy, stepOf, keepsBy, arrayOf}
 use Rattle.demand3.specs.Differ.{coversBy, covers, EqualBut, FullLoad, silenced}
 

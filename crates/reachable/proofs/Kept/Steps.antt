@@ -20,7 +20,7 @@ use Rattle.part.specs.State.{withControl, withWire, withTimers, withDevice, wit
 use Rattle.control.specs.Register.{orderOf}
 use Rattle.device.specs.Bytes.{byteOf, keptOf, bitOf, ninthOf}
 use Rattle.device.specs.Ends.{startedOf, dropped, stoppedOf, endedOf}
-use Rattle.sample.specs.Level.{sclOf, sdaOf, wpOf, vccOf}
+use Rattle.levels.specs.Level.{sclOf, sdaOf, wpOf, vccOf}
 use Rattle.sample.specs.Sample.{latchedBy, opensOf, resetOf, startOf, stopOf, byteStep, heardBy, lineOf, signIn, wiredOf, seenBy, seenOf, goesOnBy, stepOf}
 use Rattle.ranges.proofs.Signs.{Saw, saw}
 use Rattle.reachable.proofs.Kept.Talks.{Talks, fresh, start-talks, stop-talks}

@@ -1,7 +1,7 @@
--- `sample::answers::line` meets its contract.
+-- `levels::answers::line` meets its contract.
 use borrow.Author.Needs.{needs}
-use Rattle.sample.proofs.answers.line.Statement.{statement}
-use Rattle.sample.proofs.answers.line.Tie as tie
+use Rattle.levels.proofs.answers.line.Statement.{statement}
+use Rattle.levels.proofs.answers.line.Tie as tie
 
 sda-requires : tie.Need-sda-requires
 sda-requires c κs = search needs

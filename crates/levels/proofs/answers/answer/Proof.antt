@@ -1,8 +1,8 @@
--- `sample::answers::answer` meets its contract.
-use Rattle.sample.specs.Level.{answerOf}
+-- `levels::answers::answer` meets its contract.
+use Rattle.levels.specs.Level.{answerOf}
 use borrow.Author.Needs.{needs}
-use Rattle.sample.proofs.answers.answer.Statement.{statement}
-use Rattle.sample.proofs.answers.answer.Tie as tie
+use Rattle.levels.proofs.answers.answer.Statement.{statement}
+use Rattle.levels.proofs.answers.answer.Tie as tie
 
 kind-of-requires : tie.Need-kind-of-requires
 kind-of-requires c κs = search needs

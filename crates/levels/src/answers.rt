@@ -1,10 +1,10 @@
-// Level bytes in, answer bytes out.
+// Level bytes, and the answer byte of a state.
 use ground::cases;
 use ground::kinds;
 use part::state::State;
 ghost use mathlib.Core.Path.{_≡_};
 ghost use mathlib.Core.Bool.{_&&_};
-ghost use Rattle.sample.specs.Level.{sclOf, sdaOf, wpOf, vccOf, pinBy, answerOf};
+ghost use Rattle.levels.specs.Level.{sclOf, sdaOf, wpOf, vccOf, pinBy, answerOf};
 
 pub fn scl(level: u8) -> bool
     ensures { λ r. ⌜ r ≡ sclOf level ⌝ }

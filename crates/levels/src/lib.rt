@@ -1,0 +1,2 @@
+// Level bytes in, answer bytes out.
+pub mod answers;
