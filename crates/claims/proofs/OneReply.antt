@@ -3,10 +3,10 @@
 use mathlib.Core.Path.{_≡_, refl, sym}
 use Rattle.ground.specs.Verdict.{meant}
 use Rattle.ground.proofs.Verdicts.{apart}
-use Rattle.twin.specs.Power.{sizeMeant}
+use Rattle.ground.specs.Size.{sizeMeant}
 use Rattle.twin.specs.declared.replays.Replayed.{Replayed}
-use Rattle.twin.specs.declared.power.Size.{Size}
-use Rattle.twin.specs.declared.power.Size.the-variants.{Bytes, Unknown}
+use Rattle.ground.specs.declared.kinds.Size.{Size}
+use Rattle.ground.specs.declared.kinds.Size.the-variants.{Bytes, Unknown}
 use Rattle.transfers.specs.declared.Listed.{Listed}
 use Rattle.demand2.proofs.Replies.{meant-one}
 use Rattle.claims.specs.OneReply.{OneReply}

@@ -14,9 +14,10 @@ use Rattle.ground.specs.Verdict.{accepted, refused, meant}
 use Rattle.refusals.specs.Refusals.{powerOf, judgedOf}
 use Rattle.ground.specs.declared.Reply.{Reply}
 use Rattle.twin.specs.declared.replays.Replayed.{Replayed}
-use Rattle.twin.specs.declared.power.Size.{Size}
-use Rattle.twin.specs.Power.{poweredUp, sizeMeant}
-use Rattle.twin.specs.Promises.{PowersUp, Replays, SizesPart}
+use Rattle.ground.specs.declared.kinds.Size.{Size}
+use Rattle.ground.specs.Size.{sizeMeant, SizesPart}
+use Rattle.twin.specs.Power.{poweredUp}
+use Rattle.twin.specs.Promises.{PowersUp, Replays}
 use lib.Dec.{leb}
 use Rattle.intel.specs.Intel.{intel}
 use Rattle.forms.specs.Reading.{bad, readingOf}

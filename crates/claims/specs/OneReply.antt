@@ -8,7 +8,8 @@ use mathlib.Core.Path.{_≡_}
 use Rattle.part.specs.declared.state.State.{State}
 use Rattle.ground.specs.declared.Reply.{Reply}
 use Rattle.twin.specs.declared.replays.Replayed.{Replayed}
-use Rattle.twin.specs.Promises.{PowersUp, Replays, ReadsRegister, SizesPart}
+use Rattle.ground.specs.Size.{SizesPart}
+use Rattle.twin.specs.Promises.{PowersUp, Replays, ReadsRegister}
 use Rattle.intel.specs.Intel.{intel}
 use Rattle.image.specs.Promises.{ReadsImage, WritesImage}
 use Rattle.texts.specs.Laying.{Starts}

@@ -2,3 +2,4 @@ pub mod Numbers
 pub mod Cases
 pub mod Kind
 pub mod Verdict
+pub mod Size

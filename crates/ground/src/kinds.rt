@@ -1,6 +1,7 @@
 // What kind of part a part number names.
 ghost use mathlib.Core.Path.{_≡_};
 ghost use Rattle.ground.specs.Kind.{kindOf};
+ghost use Rattle.ground.specs.Size.{SizesPart};
 
 pub const X4323: u16 = 4323;
 
@@ -31,4 +32,21 @@ pub fn kind_of(part: u16) -> Kind
             high: false,
         },
     }
+}
+
+// The size of a part's array.
+pub enum Size {
+    Bytes(u32),
+    Unknown,
+}
+
+// The array's size of the part that a number names.
+pub fn size_of(part: u16) -> Size
+    ensures { λ r. ⌜ SizesPart part r ⌝ }
+{
+    let kind = kind_of(part);
+    if kind.size == 0 {
+        return Size::Unknown;
+    }
+    Size::Bytes(kind.size as u32)
 }

@@ -1,6 +1,6 @@
 -- The part at power-up, and its size (document 01, State and time; Refusal numbers).
 use Prim.Native.Nat.{ℕ}
-use mathlib.Core.Bool.{Bool, true, false}
+use mathlib.Core.Bool.{true, false}
 use Rattle.ground.specs.Numbers.{x4323, resetHold}
 use Rattle.part.specs.Timers.{off}
 use Rattle.part.specs.Page.{at, emptyLoad}
@@ -8,9 +8,7 @@ use Rattle.part.specs.declared.state.Phase.the-variants.{Idle}
 use Rattle.part.specs.declared.state.State.{State}
 use Rattle.wire.specs.Sign.{cleanFrame}
 use Rattle.device.specs.Talk.{rested}
-use Rattle.ground.specs.Verdict.{Verdict, accepted, refused, noPart}
-use Rattle.twin.specs.declared.power.Size.{Size}
-use Rattle.twin.specs.declared.power.Size.the-variants.{Bytes, Unknown}
+use Rattle.ground.specs.Verdict.{Verdict, accepted, refused}
 
 -- The state at power-up (State and time, power-up).
 unfoldable pub poweredUp : ℕ → ℕ → ℕ → State
@@ -32,13 +30,3 @@ poweredUp part select stored =
 abbrev pub powerState : Verdict → ℕ → ℕ → ℕ → State
 powerState (accepted n) part select stored = poweredUp part select stored
 powerState (refused k p) part select stored = poweredUp x4323 0 0
-
--- What each case of a size says: the bytes, or refusal 1 (Refusal numbers, 1).
-unfoldable pub sizeMeant : Size → Verdict
-sizeMeant (Bytes n) = accepted n
-sizeMeant Unknown = noPart
-
--- The size that a part number names, or refusal 1 (Refusal numbers, 1).
-abbrev pub sizeBy : Bool → ℕ → Verdict
-sizeBy true n = accepted n
-sizeBy false n = noPart

@@ -3,15 +3,13 @@
 use Prim.Native.Nat.{ℕ}
 use mathlib.Core.List.{List}
 use mathlib.Core.Path.{_≡_}
-use Rattle.ground.specs.Kind.{kindOf, known}
 use Rattle.part.specs.declared.state.State.{State}
 use Rattle.control.specs.Register.{readsOf}
 use Rattle.twin.specs.declared.replays.Replayed.{Replayed}
-use Rattle.twin.specs.declared.power.Size.{Size}
 use Rattle.sample.specs.Run.{Part, runOf, answersOf}
 use Rattle.ground.specs.Verdict.{Verdict, accepted, refused, meant}
 use Rattle.refusals.specs.Refusals.{judgedOf, powerOf}
-use Rattle.twin.specs.Power.{powerState, sizeMeant, sizeBy}
+use Rattle.twin.specs.Power.{powerState}
 
 -- Power-up: its verdict, and the state beside it (Refusal numbers, 1 to 3; State and time, power-up).
 pub record PowersUp (part select stored : ℕ) (r : Replayed) : Type 0 where
@@ -38,10 +36,6 @@ pub record Replays (s : State) (es ls array row : List ℕ) (r : Replayed) (arra
 -- The control register of a state, as it reads (Control register, bits 7 to 0).
 pub record ReadsRegister (s : State) (r : ℕ) : Type 0 where
   pub byte : r ≡ readsOf (s .device .control)
-
--- The size of the part that a number names (The part on our bench; Refusal numbers, 1).
-pub record SizesPart (part : ℕ) (r : Size) : Type 0 where
-  pub said : sizeMeant r ≡ sizeBy (known part) (kindOf part .size)
 
 -- The samples of an accepted capture: the part after them, and an answer for each (What goes in and what comes out).
 pub record Runs (s : State) (es ls array : List ℕ) (r : State) (array′ row′ : List ℕ) : Type 0 where

@@ -5,9 +5,9 @@ mod power;
 mod replays;
 
 pub use ground::Reply;
-pub use power::Size;
+pub use ground::kinds::Size;
+pub use ground::kinds::size_of;
 pub use power::power_up;
 pub use power::register;
-pub use power::size_of;
 pub use replays::Replayed;
 pub use replays::replay;

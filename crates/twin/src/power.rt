@@ -18,13 +18,7 @@ use part::timers;
 use refusals::verdicts;
 ghost use mathlib.Core.Path.{_≡_};
 ghost use Rattle.twin.specs.Power.{poweredUp};
-ghost use Rattle.twin.specs.Promises.{PowersUp, ReadsRegister, SizesPart};
-
-// The size of a part's array.
-pub enum Size {
-    Bytes(u32),
-    Unknown,
-}
+ghost use Rattle.twin.specs.Promises.{PowersUp, ReadsRegister};
 
 fn powered_up(part: u16, select: u8, stored: u8) -> State
     ensures { λ r. ⌜ r ≡ poweredUp part select stored ⌝ }
@@ -95,15 +89,4 @@ pub fn register(state: State) -> u8
 {
     let device = state.device;
     control::reads(device.control)
-}
-
-// The array's size of the part that a number names.
-pub fn size_of(part: u16) -> Size
-    ensures { λ r. ⌜ SizesPart part r ⌝ }
-{
-    let kind = kinds::kind_of(part);
-    if kind.size == 0 {
-        return Size::Unknown;
-    }
-    Size::Bytes(kind.size as u32)
 }

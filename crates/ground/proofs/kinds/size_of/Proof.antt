@@ -1,9 +1,9 @@
--- `twin::power::size_of` meets its contract.
-use Rattle.twin.specs.Power.{sizeMeant}
+-- `ground::kinds::size_of` meets its contract.
+use Rattle.ground.specs.Size.{sizeMeant}
 use Rattle.ground.proofs.Tests.{not-zero}
 use borrow.Author.Needs.{needs}
-use Rattle.twin.proofs.power.size_of.Statement.{statement}
-use Rattle.twin.proofs.power.size_of.Tie as tie
+use Rattle.ground.proofs.kinds.size_of.Statement.{statement}
+use Rattle.ground.proofs.kinds.size_of.Tie as tie
 
 kind-of-requires : tie.Need-kind-of-requires
 kind-of-requires c κs = search needs
