@@ -3,11 +3,12 @@ use Prim.Native.Nat.{ℕ, _-_, _<_}
 use mathlib.Core.Bool.{Bool, true, false, _&&_}
 use mathlib.Core.Path.{_≡_}
 use lib.Dec.{ltb, eqb}
+use Rattle.ground.specs.Numbers.{mostBits}
 use Rattle.part.specs.declared.state.Phase.the-variants.{Idle}
 use Rattle.part.specs.declared.state.Device.{Device}
 use Rattle.part.specs.declared.state.Talk.{Talk}
 use Rattle.part.specs.declared.state.Wire.{Wire}
-use Rattle.wire.specs.Sign.{pushed, signOf, wireOf}
+use Rattle.wire.specs.Sign.{pushed, allButOne, signOf, wireOf}
 use Rattle.wire.specs.declared.Sign.{Sign}
 use Rattle.wire.specs.declared.Sign.the-variants.{Quiet, Start, Stop, Bit, Byte, Ninth}
 use Rattle.part.specs.State.{withTalk}
@@ -42,25 +43,26 @@ abbrev pub freeAt : Bool → Bool → ℕ → ℕ → Talk → ℕ → Clocks
 freeAt scl sda bits shift k room =
     clocksOf (record { lines = record { scl = scl; sda = sda }; frame = record { held = false; bit = false; bits = bits; shift = shift } }) k room
 
--- The clocks after an eighth fall, or a ninth, that left a talk.
+-- The SDA line in a sample.
+abbrev pub lineAt : Clocks → ℕ → Bool
+lineAt c level = sdaOf level && c .own
+
+-- The clocks after an eighth fall, which leaves the byte in the frame, or after a ninth, each with the talk that it left.
 abbrev pub fallenBy : Bool → Clocks → Talk → ℕ → ℕ → Clocks
-fallenBy true c k e level = freeAt false (sdaOf level && c .own) 8 (pushed (c .shift) (c .bit)) k (c .room - e)
-fallenBy false c k e level = freeAt false (sdaOf level && c .own) 0 0 k (c .room - e)
+fallenBy true c k e level = freeAt false (lineAt c level) mostBits (pushed (c .shift) (c .bit)) k (c .room - e)
+fallenBy false c k e level = freeAt false (lineAt c level) 0 0 k (c .room - e)
 
+-- The same by the bits before the fall.
 abbrev pub fallenAt : Clocks → Talk → ℕ → ℕ → Clocks
-fallenAt c k e level = fallenBy (eqb (c .bits) 7) c k e level
+fallenAt c k e level = fallenBy (eqb (c .bits) allButOne) c k e level
 
--- And after a start or a stop: nothing is said.
+-- The clocks after a start or a stop: nothing is said.
 abbrev pub cutAt : Bool → ℕ → Clocks
 cutAt sda room = freeAt true sda 0 0 (rested Idle) room
 
 -- A device with the talk that the clocks have come to: its phase stays.
 abbrev pub spokenOf : Device → Clocks → Device
 spokenOf d c = withTalk d (record { phase = d .talk .phase; high = c .high; out = c .out; own = c .own })
-
--- The SDA line in a sample.
-abbrev pub lineAt : Clocks → ℕ → Bool
-lineAt c level = sdaOf level && c .own
 
 -- The sign that a sample shows.
 abbrev pub seenAt : Clocks → ℕ → Sign
