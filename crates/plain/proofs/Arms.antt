@@ -33,7 +33,7 @@ use Rattle.part.specs.State.{withWatchdog}
 use Rattle.sample.specs.Sample.{startOf, heardBy, writtenBy, stopOf, byteStep}
 use Rattle.sample.specs.Run.{Part, partStep}
 use Rattle.plain.specs.Goes.{Goes, partOf, movedOf}
-use Rattle.plain.specs.Rooms.{Room, Begins, timersAt, baseOf}
+use Rattle.plain.specs.Rooms.{Room, Begins, timersAt, baseOf, Tells}
 use Rattle.plain.specs.Clocks.{wireAt, spokenOf, lineAt, seenAt, turnBy, fallenBy, fallenAt, cutAt, Comes, smallBy, Turned}
 use Rattle.plain.specs.Stands.{stateAt, Stands}
 use Rattle.plain.specs.declared.clocks.Clocks.{Clocks}
@@ -87,68 +87,68 @@ start-forgets w d c = refl
 
 module _ {s : State} {es ls array row₀ : List ℕ} {from base : ℕ} {t : Times} {d : Device} {m : Load} {c : Clocks} {row : List ℕ} {i : ℕ} (g : Stands s es ls array row₀ from base t d m c row i) (more : i < length ls) where
   -- A plain clock.
-  pub plain-turn : (c′ : Clocks) (sends : Bool) (a : ℕ) → Comes c (getD es i 0) (getD ls i 0) Turn.Plain → Turned c sends (getD es i 0) (getD ls i 0) c′
-      → sends ≡ sendsIn (d .talk .phase) → a ≡ orZero (c′ .own) 1 + base
-      → Stands s es ls array row₀ from base t d m c′ (set row i a) (i + 1)
-  plain-turn c′ sends a k u n f =
+  pub plain-turn : (c′ : Clocks) (sends : Bool) (i′ : ℕ) (row′ : List ℕ) → Comes c (getD es i 0) (getD ls i 0) Turn.Plain → Turned c sends (getD es i 0) (getD ls i 0) c′
+      → sends ≡ sendsIn (d .talk .phase) → Tells row i (c′ .own) base i′ row′
+      → Stands s es ls array row₀ from base t d m c′ row′ i′
+  plain-turn c′ sends i′ row′ k u n f =
       let x = small-heard (seenAt c (getD ls i 0)) (wpOf (getD ls i 0)) array s (timersAt (s .timers .hold) t (c .room - getD es i 0)) (wireOf (wireAt c) (sclOf (getD ls i 0)) (lineAt c (getD ls i 0))) (spokenOf d c) m (k .shown) in
-      carried g more (k .soon) d m c′ a (u .room)
+      carried g more (k .soon) d m c′ i′ row′ (u .room)
       (signed g more (k .soon) (seenAt c (getD ls i 0)) _ _ (k .good) (record { shown = refl; left = refl })
       (x .0 ∙ rw (u .room, u .wire, u .talk d n))
       (x .1))
       f
 
   -- An eighth fall, with what it leaves of the device and of the load.
-  pub eighth-turn : (kind : Kind) (select : ℕ) (x d′ : Device) (m′ : Load) (c′ : Clocks) (v a : ℕ)
+  pub eighth-turn : (kind : Kind) (select : ℕ) (x d′ : Device) (m′ : Load) (c′ : Clocks) (v i′ : ℕ) (row′ : List ℕ)
       → Comes c (getD es i 0) (getD ls i 0) Turn.Eighth → v ≡ pushed (c .shift) (c .bit)
       → kind ≡ kindOf (s .chip .part) → select ≡ s .chip .select → x ≡ spokenOf d c → d′ ≡ byteOf kind select x v → m′ ≡ keptOf kind x v m
-      → c′ ≡ fallenAt c (d′ .talk) (getD es i 0) (getD ls i 0) → a ≡ orZero (c′ .own) 1 + base
-      → Stands s es ls array row₀ from base t d′ m′ c′ (set row i a) (i + 1)
+      → c′ ≡ fallenAt c (d′ .talk) (getD es i 0) (getD ls i 0) → Tells row i (c′ .own) base i′ row′
+      → Stands s es ls array row₀ from base t d′ m′ c′ row′ i′
   unfolding byteStep
-  eighth-turn kind select x d′ m′ c′ v a k u j l y p q r f =
+  eighth-turn kind select x d′ m′ c′ v i′ row′ k u j l y p q r f =
       let b = eighth-bits (c .scl) (c .sda) _ _ (c .held) (c .bit) (c .bits) (c .shift) (k .shown) in
       let z = r ∙ ap (λ (o : Bool). fallenBy o c (d′ .talk) (getD es i 0) (getD ls i 0)) b in
-      carried g more (k .soon) d′ m′ c′ a (ap (λ (o : Clocks). o .room) z)
+      carried g more (k .soon) d′ m′ c′ i′ row′ (ap (λ (o : Clocks). o .room) z)
       (signed g more (k .soon) _ _ _ (k .good) (eighth-seen (c .scl) (c .sda) _ _ (c .held) (c .bit) (c .bits) (c .shift) (k .shown))
       (rw (z, p, q, j, l, y, u))
       refl)
       f
 
   -- A ninth.
-  pub ninth-turn : (kind : Kind) (x d′ : Device) (c′ : Clocks) (a : ℕ)
+  pub ninth-turn : (kind : Kind) (x d′ : Device) (c′ : Clocks) (i′ : ℕ) (row′ : List ℕ)
       → Comes c (getD es i 0) (getD ls i 0) Turn.Ninth → kind ≡ kindOf (s .chip .part) → x ≡ spokenOf d c → d′ ≡ ninthOf kind array (c .bit) x
-      → c′ ≡ fallenAt c (d′ .talk) (getD es i 0) (getD ls i 0) → a ≡ orZero (c′ .own) 1 + base
-      → Stands s es ls array row₀ from base t d′ m c′ (set row i a) (i + 1)
-  ninth-turn kind x d′ c′ a k j y p r f =
+      → c′ ≡ fallenAt c (d′ .talk) (getD es i 0) (getD ls i 0) → Tells row i (c′ .own) base i′ row′
+      → Stands s es ls array row₀ from base t d′ m c′ row′ i′
+  ninth-turn kind x d′ c′ i′ row′ k j y p r f =
       let b = ninth-bits (c .scl) (c .sda) _ _ (c .held) (c .bit) (c .bits) (c .shift) (k .shown) in
       let z = r ∙ ap (λ (o : Bool). fallenBy o c (d′ .talk) (getD es i 0) (getD ls i 0)) b in
-      carried g more (k .soon) d′ m c′ a (ap (λ (o : Clocks). o .room) z)
+      carried g more (k .soon) d′ m c′ i′ row′ (ap (λ (o : Clocks). o .room) z)
       (signed g more (k .soon) _ _ _ (k .good) (ninth-seen (c .scl) (c .sda) _ _ (c .held) (c .bit) (c .bits) (c .shift) (k .shown))
       (rw (z, p, j, y))
       refl)
       f
 
   -- A stop with an empty load and nothing pending.
-  pub stop-turn : (d′ : Device) (c′ : Clocks) (room a : ℕ)
+  pub stop-turn : (d′ : Device) (c′ : Clocks) (room i′ : ℕ) (row′ : List ℕ)
       → Comes c (getD es i 0) (getD ls i 0) Turn.Stop → d′ ≡ endedOf d → d .control .pending ≡ false → m ≡ emptyLoad
-      → c′ ≡ cutAt true room → room ≡ c .room - getD es i 0 → a ≡ 1 + base
-      → Stands s es ls array row₀ from base t d′ m c′ (set row i a) (i + 1)
+      → c′ ≡ cutAt true room → room ≡ c .room - getD es i 0 → Tells row i true base i′ row′
+      → Stands s es ls array row₀ from base t d′ m c′ row′ i′
   unfolding stopOf endedOf
-  stop-turn d′ c′ room a k p h e r z f =
-      carried g more (k .soon) d′ m c′ a (ap (λ (o : Clocks). o .room) r ∙ z)
+  stop-turn d′ c′ room i′ row′ k p h e r z f =
+      carried g more (k .soon) d′ m c′ i′ row′ (ap (λ (o : Clocks). o .room) r ∙ z)
       (signed g more (k .soon) _ _ _ (k .good) (stop-seen (c .scl) (c .sda) _ _ (c .held) (c .bit) (c .bits) (c .shift) (k .shown))
       (rw (r, z, p, e, no-order (wpOf (getD ls i 0)) (d .control) h, stop-ends (spokenOf d c)))
       (rw e))
-      (f ∙ sym (ap (λ (o : Clocks). orZero (o .own) 1 + base) r))
+      (rw (ap (λ (o : Clocks). o .own) r) f)
 
   -- A start: the watchdog is loaded, and the time is counted anew.
-  pub start-turn : (t′ : Times) (d′ : Device) (m′ : Load) (c′ : Clocks) (room a : ℕ)
+  pub start-turn : (t′ : Times) (d′ : Device) (m′ : Load) (c′ : Clocks) (room i′ : ℕ) (row′ : List ℕ)
       → Comes c (getD es i 0) (getD ls i 0) Turn.Start → room ≡ c .room - getD es i 0
       → Begins (t .write - (t .all - room)) (loadedOf (d .control .stored)) t′ → d′ ≡ startedOf (ltb 0 (t′ .write)) d → m′ ≡ emptyLoad
-      → c′ ≡ cutAt false (t′ .all) → a ≡ 1 + base
-      → Stands s es ls array row₀ from base t′ d′ m′ c′ (set row i a) (i + 1)
+      → c′ ≡ cutAt false (t′ .all) → Tells row i true base i′ row′
+      → Stands s es ls array row₀ from base t′ d′ m′ c′ row′ i′
   unfolding startOf startedOf
-  start-turn t′ d′ m′ c′ room a k z b p e r f =
+  start-turn t′ d′ m′ c′ room i′ row′ k z b p e r f =
       let fits = g .fits in
       let soon = k .soon in
       let within : 0 < t .write → t .all - room < t .write = λ n. omega (arith, z, fits, soon, g .times .writes n) in
@@ -158,7 +158,7 @@ module _ {s : State} {es ls array row₀ : List ℕ} {from base : ℕ} {t : Time
       let steps =
       signed g more soon Start _ _ (k .good) (start-seen (c .scl) (c .sda) _ _ (c .held) (c .bit) (c .bits) (c .shift) (k .shown)) refl refl
       in
-      subst⁻¹ (λ (o : Clocks). Stands s es ls array row₀ from base t′ d′ m′ o (set row i a) (i + 1))
+      subst⁻¹ (λ (o : Clocks). Stands s es ls array row₀ from base t′ d′ m′ o row′ i′)
       r
       (record {
         long = g .long;
@@ -167,8 +167,8 @@ module _ {s : State} {es ls array row₀ : List ℕ} {from base : ℕ} {t : Time
         times = subst⁻¹ (λ (x : Times). Room (x .write) (x .running) (x .left) (x .all)) (b .same) (b .room);
         fits = omega arith;
         goes =
-            rw add-one
-            (goes-on es ls row₀ row from i (partOf s array) _ (g .goes) a _ (g .long) (g .wide) more
+            rw (f .next, f .said, add-one)
+            (goes-on es ls row₀ row from i (partOf s array) _ (g .goes) (1 + base) _ (g .long) (g .wide) more
             (rw (begun-anew (s .timers .hold) room t t′ (loadedOf (d .control .stored)) b, p, e, wrote, z) steps)
-            (f ∙ ap (λ (n : ℕ). 1 + n) rests ∙ sym (answer-at s t′ d′ m′ (cutAt false (t′ .all)) (λ n. omega (arith, n)))));
+            (ap (λ (n : ℕ). 1 + n) rests ∙ sym (answer-at s t′ d′ m′ (cutAt false (t′ .all)) (λ n. omega (arith, n)))));
       })

@@ -32,21 +32,21 @@ comes c e level t h n =
     record { soon = ltb-true e (c .room) (k .0); good = k .1; shown = k .2 }
 
 -- As it is for each that they take.
-module _ (c : Clocks) (e level : ℕ) where
-  pub comes-plain : turnOf c e level ≡ Turn.Plain → Comes c e level Turn.Plain
-  comes-plain h = comes c e level Turn.Plain h (λ k. unlike (cc))
+module _ (c : Clocks) (e level : ℕ) {t : Turn} where
+  pub comes-plain : t ≡ turnOf c e level → t ≡ Turn.Plain → Comes c e level Turn.Plain
+  comes-plain h q = comes c e level Turn.Plain (sym h ∙ q) (λ k. unlike (cc))
 
-  pub comes-eighth : turnOf c e level ≡ Turn.Eighth → Comes c e level Turn.Eighth
-  comes-eighth h = comes c e level Turn.Eighth h (λ k. unlike (cc))
+  pub comes-eighth : t ≡ turnOf c e level → t ≡ Turn.Eighth → Comes c e level Turn.Eighth
+  comes-eighth h q = comes c e level Turn.Eighth (sym h ∙ q) (λ k. unlike (cc))
 
-  pub comes-ninth : turnOf c e level ≡ Turn.Ninth → Comes c e level Turn.Ninth
-  comes-ninth h = comes c e level Turn.Ninth h (λ k. unlike (cc))
+  pub comes-ninth : t ≡ turnOf c e level → t ≡ Turn.Ninth → Comes c e level Turn.Ninth
+  comes-ninth h q = comes c e level Turn.Ninth (sym h ∙ q) (λ k. unlike (cc))
 
-  pub comes-start : turnOf c e level ≡ Turn.Start → Comes c e level Turn.Start
-  comes-start h = comes c e level Turn.Start h (λ k. unlike (cc))
+  pub comes-start : t ≡ turnOf c e level → t ≡ Turn.Start → Comes c e level Turn.Start
+  comes-start h q = comes c e level Turn.Start (sym h ∙ q) (λ k. unlike (cc))
 
-  pub comes-stop : turnOf c e level ≡ Turn.Stop → Comes c e level Turn.Stop
-  comes-stop h = comes c e level Turn.Stop h (λ k. unlike (cc))
+  pub comes-stop : t ≡ turnOf c e level → t ≡ Turn.Stop → Comes c e level Turn.Stop
+  comes-stop h q = comes c e level Turn.Stop (sym h ∙ q) (λ k. unlike (cc))
 
 module _ {now next : Clocks} {sends : Bool} {e level : ℕ} (c d : Bool) (p : c ≡ sclOf level) (q : d ≡ lineAt now level) where
   pub turned-quiet : next .room ≡ now .room - e → Sees (wireAt now) c d Quiet (wireAt next) → ((x : Device) → spokenOf x next ≡ spokenOf x now)

@@ -24,7 +24,7 @@ use Rattle.sample.specs.Sample.{opensOf, resetOf, stepOf, arrayOf}
 use Rattle.sample.specs.Run.{Part, partStep}
 use Rattle.sample.proofs.Sampled.{step-reset, array-reset}
 use Rattle.plain.specs.Goes.{Goes, partOf, movedOf}
-use Rattle.plain.specs.Rooms.{baseOf}
+use Rattle.plain.specs.Rooms.{baseOf, Tells}
 use Rattle.plain.specs.Dark.{heldAt, quietAt, fallenOf, Dark, darkAt}
 use Rattle.plain.proofs.Going.{goes-on}
 use Rattle.plain.proofs.Standing.{sum-of-three}
@@ -89,12 +89,12 @@ module _ (s : State) (h : Dark s) where
   dark-said write lines = ap answerOf (dark-as write lines) ∙ held-said write lines (s .device) released
 
   -- One sample more, with its answer.
-  pub dark-goes : {es ls row₀ row array : List ℕ} {from i write : ℕ} {lines : Lines} {p : Part} {high : Bool} {a : ℕ}
+  pub dark-goes : {es ls row₀ row array row′ : List ℕ} {from i i′ write base : ℕ} {lines : Lines} {p : Part} {high : Bool}
       → Goes es ls from p row₀ i (partOf (darkAt s write lines) array) row → length es ≡ length ls → length row₀ ≡ length ls → i < length ls
-      → vccOf (getD ls i 0) ≡ false → high ≡ kindOf (s .chip .part) .high → a ≡ 1 + baseOf high true (write - getD es i 0)
-      → Goes es ls from p row₀ (i + 1) (partOf (darkAt s (write - getD es i 0) (record { scl = sclOf (getD ls i 0); sda = sdaOf (getD ls i 0) })) array) (set row i a)
-  dark-goes {es} {ls} {row₀} {row} {array} {from} {i} {write} {lines} {p} {high} {a} g u w m v k f =
-      rw add-one
-      (goes-on es ls row₀ row from i p _ g a _ u w m
+      → vccOf (getD ls i 0) ≡ false → high ≡ kindOf (s .chip .part) .high → base ≡ baseOf high true (write - getD es i 0) → Tells row i true base i′ row′
+      → Goes es ls from p row₀ i′ (partOf (darkAt s (write - getD es i 0) (record { scl = sclOf (getD ls i 0); sda = sdaOf (getD ls i 0) })) array) row′
+  dark-goes {es} {ls} {row₀} {row} {array} {row′} {from} {i} {i′} {write} {base} {lines} {p} {high} g u w m v k b f =
+      rw (f .next, f .said, add-one)
+      (goes-on es ls row₀ row from i p _ g (1 + base) _ u w m
       (dark-turn (getD es i 0) (getD ls i 0) write lines array v)
-      (f ∙ ap (λ (b : Bool). 1 + baseOf b true (write - getD es i 0)) k ∙ sym (dark-said (write - getD es i 0) (record { scl = sclOf (getD ls i 0); sda = sdaOf (getD ls i 0) }))))
+      (ap (λ (n : ℕ). 1 + n) (b ∙ ap (λ (h′ : Bool). baseOf h′ true (write - getD es i 0)) k) ∙ sym (dark-said (write - getD es i 0) (record { scl = sclOf (getD ls i 0); sda = sdaOf (getD ls i 0) }))))

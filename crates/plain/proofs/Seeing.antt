@@ -169,7 +169,7 @@ no-cut : {A : Type 0} (f : Frame) (t : Turn) → cuts t ≡ true → turnBy (fal
 unfolding fallSign
 no-cut f t h e =
     let k = fall-cuts-not (f .held) (ltb (f .bits) 7) (eqb (f .bits) 7) f in
-    unlike (cc (ap cuts e))
+    never (sym k ∙ ap cuts e ∙ h)
 
 start-by : (x y a b : Bool) (f : Frame) → turnBy (signBy x y a b f) ≡ Turn.Start
     → (signBy x y a b f ≡ Start) × (wireFrom y b (frameBy x y a b f) ≡ wireFrom true false cleanFrame)

@@ -6,7 +6,7 @@ use mathlib.Core.Path.{_≡_, refl, sym, ap, subst, _∙_}
 use native.Mathlib.Omega.{arith}
 use native.Mathlib.Numerals.{add-one}
 use lib.Dec.{ltb}
-use lib.ListN.{length, getD, set}
+use lib.ListN.{length, getD, set, length-set}
 use Rattle.ground.specs.Cases.{orZero}
 use Rattle.ground.specs.Kind.{kindOf}
 use Rattle.part.specs.declared.state.Timers.{Timers}
@@ -19,7 +19,7 @@ use Rattle.sample.specs.Level.{sclOf, sdaOf, wpOf, vccOf, answerOf}
 use Rattle.sample.specs.Sample.{heardBy, writtenBy}
 use Rattle.sample.specs.Run.{Part, partStep}
 use Rattle.plain.specs.Goes.{Goes, partOf, movedOf}
-use Rattle.plain.specs.Rooms.{Room, timersAt, baseOf}
+use Rattle.plain.specs.Rooms.{Room, timersAt, baseOf, Tells}
 use Rattle.plain.specs.Clocks.{wireAt, spokenOf, lineAt, clocksOf}
 use Rattle.plain.specs.Stands.{stateAt, Stands}
 use Rattle.plain.specs.declared.clocks.Clocks.{Clocks}
@@ -28,6 +28,10 @@ use Rattle.plain.proofs.Going.{goes-none, goes-on}
 use Rattle.plain.proofs.Seeing.{Sees}
 use Rattle.plain.proofs.Timing.{time-passes, still-writes, begins}
 use Rattle.plain.proofs.Turning.{heard}
+
+-- A row is as long after an answer as before it.
+pub told-long : {row : List ℕ} {i : ℕ} {own : Bool} {base r : ℕ} {row′ : List ℕ} → Tells row i own base r row′ → length row′ ≡ length row
+told-long {row} {i} {own} {base} f = ap length (f .said) ∙ length-set row i (orZero own 1 + base)
 
 pub sum-of-three : (a b c : ℕ) → a + b + c ≡ a + (b + c)
 sum-of-three a b c = omega arith
@@ -77,11 +81,11 @@ module _ {s : State} {es ls array row₀ : List ℕ} {from base : ℕ} {t : Time
   writes-on n e z = let h = g .times .writes z in let k = g .fits in omega (arith, e, h, k, soon)
 
   -- One more, by which the times stay.
-  pub carried : (d′ : Device) (m′ : Load) (c′ : Clocks) (a : ℕ) → c′ .room ≡ c .room - getD es i 0
+  pub carried : (d′ : Device) (m′ : Load) (c′ : Clocks) (i′ : ℕ) (row′ : List ℕ) → c′ .room ≡ c .room - getD es i 0
       → partOf (stateAt s t d′ m′ c′) array ≡ partStep (getD es i 0) (getD ls i 0) (partOf (stateAt s t d m c) array)
-      → a ≡ orZero (c′ .own) 1 + base
-      → Stands s es ls array row₀ from base t d′ m′ c′ (set row i a) (i + 1)
-  carried d′ m′ c′ a e q f =
+      → Tells row i (c′ .own) base i′ row′
+      → Stands s es ls array row₀ from base t d′ m′ c′ row′ i′
+  carried d′ m′ c′ i′ row′ e q f =
       let fits = g .fits in
       record {
         long = g .long;
@@ -90,7 +94,7 @@ module _ {s : State} {es ls array row₀ : List ℕ} {from base : ℕ} {t : Time
         times = g .times;
         fits = omega (arith, fits, e);
         goes =
-            rw add-one
-            (goes-on es ls row₀ row from i (partOf s array) _ (g .goes) a _ (g .long) (g .wide) more q
-            (f ∙ ap (λ (n : ℕ). orZero (c′ .own) 1 + n) (g .rests) ∙ sym (answer-at s t d′ m′ c′ (writes-on (c′ .room) e))));
+            rw (f .next, f .said, add-one)
+            (goes-on es ls row₀ row from i (partOf s array) _ (g .goes) (orZero (c′ .own) 1 + base) _ (g .long) (g .wide) more q
+            (ap (λ (n : ℕ). orZero (c′ .own) 1 + n) (g .rests) ∙ sym (answer-at s t d′ m′ c′ (writes-on (c′ .room) e))));
       }

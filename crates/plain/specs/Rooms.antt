@@ -1,8 +1,10 @@
 -- Time while no timer ends.
 use Prim.Native.Nat.{ℕ, _+_, _-_, _≤_, _<_}
 use mathlib.Core.Bool.{Bool, true, false}
+use mathlib.Core.List.{List}
 use mathlib.Core.Path.{_≡_}
 use lib.Dec.{ltb}
+use lib.ListN.{set}
 use Rattle.ground.specs.Cases.{orZero}
 use Rattle.part.specs.declared.state.Timers.{Timers}
 use Rattle.part.specs.declared.state.Watchdog.{Watchdog}
@@ -38,3 +40,8 @@ timersAt hold t room =
 -- The answer byte but for the part's own SDA: the RESET pin, and whether a write cycle runs.
 abbrev pub baseOf : Bool → Bool → ℕ → ℕ
 baseOf high reset write = orZero (pinBy high reset) 2 + orZero (ltb 0 write) 4
+
+-- An answer byte written, and the sample after it.
+pub record Tells (row : List ℕ) (i : ℕ) (own : Bool) (base r : ℕ) (row′ : List ℕ) : Type 0 where
+  pub next : r ≡ i + 1
+  pub said : row′ ≡ set row i (orZero own 1 + base)

@@ -86,9 +86,7 @@ fn go_on(
     let mut empty = false;
     let mut i = first.at;
     while i < levels.len() {
-        let e = elapsed[i];
-        let level = levels[i];
-        let turn = clocks::turn_of(now, e, level);
+        let turn = clocks::turn_at(now, elapsed, levels, i);
         match turn {
             Turn::Plain => {
                 let talk = device.talk;
@@ -109,15 +107,13 @@ fn go_on(
                     empty = false;
                 }
                 device = bytes::byte(kind, select, d, v);
-                now = clocks::fallen(now, device.talk, e, level);
-                row[i] = rooms::said(now.own, base);
-                i += 1;
+                now = clocks::fallen(now, device.talk, elapsed, levels, i);
+                i = rooms::tell(row, i, now.own, base);
             }
             Turn::Ninth => {
                 device = bits::ninth(kind, array, now.bit, spoken(device, now));
-                now = clocks::fallen(now, device.talk, e, level);
-                row[i] = rooms::said(now.own, base);
-                i += 1;
+                now = clocks::fallen(now, device.talk, elapsed, levels, i);
+                i = rooms::tell(row, i, now.own, base);
             }
             Turn::Start => {
                 if !empty {
@@ -125,11 +121,11 @@ fn go_on(
                     empty = true;
                 }
                 let control = device.control;
-                times = rooms::started(times, now.room - e, control.stored);
+                let rest = clocks::rest(now.room, elapsed, i);
+                times = rooms::started(times, rest, control.stored);
                 device = ends::start(0 < times.write, device);
                 now = clocks::cut(false, times.all);
-                row[i] = rooms::said(true, base);
-                i += 1;
+                i = rooms::tell(row, i, true, base);
             }
             Turn::Stop => {
                 let control = device.control;
@@ -137,9 +133,8 @@ fn go_on(
                     break;
                 }
                 device = ends::end(device);
-                now = clocks::cut(true, now.room - e);
-                row[i] = rooms::said(true, base);
-                i += 1;
+                now = clocks::cut(true, clocks::rest(now.room, elapsed, i));
+                i = rooms::tell(row, i, true, base);
             }
             Turn::Other => {
                 break;

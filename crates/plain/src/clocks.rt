@@ -8,8 +8,8 @@ use part::state::Wire;
 use sample::answers;
 ghost use mathlib.Core.Path.{_≡_};
 ghost use mathlib.Core.Bool.{Bool};
-ghost use Prim.Native.Nat.{_≤_};
-ghost use lib.ListN.{length};
+ghost use Prim.Native.Nat.{_-_, _≤_, _<_};
+ghost use lib.ListN.{length, getD};
 ghost use Rattle.plain.specs.Clocks.{wireAt, clocksOf, fallenAt, cutAt, turnBy, seenAt, turnOf, Comes, Turned};
 ghost use Rattle.plain.specs.Stands.{Clocked};
 
@@ -81,14 +81,16 @@ pub fn wire_of(c: Clocks) -> Wire
     }
 }
 
-// The clocks after an eighth or a ninth fall that left this talk.
-pub fn fallen(now: Clocks, talk: Talk, elapsed: u32, level: u8) -> Clocks
-    requires { ⌜ elapsed ≤ now .room ⌝ }
-    ensures { λ r. ⌜ r ≡ fallenAt now talk elapsed level ⌝ }
+// The clocks after an eighth or a ninth fall, the sample `i`, that left this talk.
+pub fn fallen(c: Clocks, talk: Talk, elapsed: &[u32], levels: &[u8], i: usize) -> Clocks
+    requires { ⌜ length (now elapsed) ≡ length (now levels) ⌝ }
+    requires { ⌜ i < length (now levels) ⌝ }
+    requires { ⌜ getD (now elapsed) i 0 ≤ c .room ⌝ }
+    ensures { λ r. ⌜ r ≡ fallenAt c talk (getD (now (elapsed .entry)) i 0) (getD (now (levels .entry)) i 0) ⌝ }
 {
-    let sda = answers::line(level, now.own);
-    let room = now.room - elapsed;
-    if now.bits == 7 {
+    let sda = answers::line(levels[i], c.own);
+    let room = c.room - elapsed[i];
+    if c.bits == 7 {
         return Clocks {
             room,
             scl: false,
@@ -96,7 +98,7 @@ pub fn fallen(now: Clocks, talk: Talk, elapsed: u32, level: u8) -> Clocks
             held: false,
             bit: false,
             bits: 8,
-            shift: wire::push(now.shift, now.bit),
+            shift: wire::push(c.shift, c.bit),
             high: talk.high,
             out: talk.out,
             own: talk.own,
@@ -167,7 +169,7 @@ fn told(now: Clocks, level: u8) -> Turn
     Turn::Plain
 }
 
-pub fn turn_of(now: Clocks, elapsed: u32, level: u8) -> Turn
+fn turn_of(now: Clocks, elapsed: u32, level: u8) -> Turn
     ensures { λ r. ⌜ r ≡ turnOf now elapsed level ⌝ }
 {
     if elapsed < now.room {
@@ -177,6 +179,24 @@ pub fn turn_of(now: Clocks, elapsed: u32, level: u8) -> Turn
         return Turn::Other;
     }
     Turn::Other
+}
+
+// What the sample `i` is to the loops.
+pub fn turn_at(c: Clocks, elapsed: &[u32], levels: &[u8], i: usize) -> Turn
+    requires { ⌜ length (now elapsed) ≡ length (now levels) ⌝ }
+    requires { ⌜ i < length (now levels) ⌝ }
+    ensures { λ r. ⌜ r ≡ turnOf c (getD (now (elapsed .entry)) i 0) (getD (now (levels .entry)) i 0) ⌝ }
+{
+    turn_of(c, elapsed[i], levels[i])
+}
+
+// The time that is left after the sample `i`.
+pub fn rest(room: u32, elapsed: &[u32], i: usize) -> u32
+    requires { ⌜ i < length (now elapsed) ⌝ }
+    requires { ⌜ getD (now elapsed) i 0 ≤ room ⌝ }
+    ensures { λ r. ⌜ r ≡ room - getD (now (elapsed .entry)) i 0 ⌝ }
+{
+    room - elapsed[i]
 }
 
 // The clocks after a plain sample.
@@ -220,6 +240,16 @@ fn turned(now: Clocks, sends: bool, elapsed: u32, level: u8) -> Clocks
     next
 }
 
+// The clocks after the sample `i`, a plain one.
+fn turned_at(c: Clocks, sends: bool, elapsed: &[u32], levels: &[u8], i: usize) -> Clocks
+    requires { ⌜ length (now elapsed) ≡ length (now levels) ⌝ }
+    requires { ⌜ i < length (now levels) ⌝ }
+    requires { ⌜ Comes c (getD (now elapsed) i 0) (getD (now levels) i 0) Turn.Plain ⌝ }
+    ensures { λ r. ⌜ Turned c sends (getD (now (elapsed .entry)) i 0) (getD (now (levels .entry)) i 0) r ⌝ }
+{
+    turned(c, sends, elapsed[i], levels[i])
+}
+
 // Stops before the first sample that is not plain.
 pub fn pass(
     first: Clocks,
@@ -238,15 +268,12 @@ pub fn pass(
     let mut now = first;
     let mut i = from;
     while i < levels.len() {
-        let e = elapsed[i];
-        let level = levels[i];
-        let turn = turn_of(now, e, level);
+        let turn = turn_at(now, elapsed, levels, i);
         let Turn::Plain = turn else {
             break;
         };
-        now = turned(now, sends, e, level);
-        row[i] = rooms::said(now.own, base);
-        i += 1;
+        now = turned_at(now, sends, elapsed, levels, i);
+        i = rooms::tell(row, i, now.own, base);
     }
     Ran { now, at: i }
 }

@@ -40,8 +40,7 @@ fn go_on(high: bool, first: Dim, elapsed: &[u32], levels: &[u8], row: &mut [u8])
             scl: answers::scl(level),
             sda: answers::sda(level),
         };
-        row[i] = rooms::said(true, rooms::base_of(high, true, write));
-        i += 1;
+        i = rooms::tell(row, i, true, rooms::base_of(high, true, write));
     }
     Dim {
         write,

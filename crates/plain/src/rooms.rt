@@ -6,10 +6,10 @@ use part::timers;
 use sample::answers;
 ghost use mathlib.Core.Path.{_≡_};
 ghost use mathlib.Core.Bool.{Bool};
-ghost use Prim.Native.Nat.{_+_, _-_, _≤_};
-ghost use Rattle.ground.specs.Cases.{orZero};
+ghost use Prim.Native.Nat.{_-_, _≤_, _<_};
+ghost use lib.ListN.{length};
 ghost use Rattle.part.specs.Timers.{loadedOf};
-ghost use Rattle.plain.specs.Rooms.{Room, Begins, leftBy, timersAt, baseOf};
+ghost use Rattle.plain.specs.Rooms.{Room, Begins, leftBy, timersAt, baseOf, Tells};
 
 // Where no timer runs any time would do; this one outlasts most captures.
 const LONG: u32 = 4_000_000_000;
@@ -103,10 +103,12 @@ pub fn base_of(high: bool, reset: bool, write: u32) -> u8
     pin + cases::worth(0 < write, 4)
 }
 
-// The answer byte.
-pub fn said(own: bool, base: u8) -> u8
+// The answer byte of the sample `i` goes into the row. Answers which sample comes next.
+pub fn tell(row: &mut [u8], i: usize, own: bool, base: u8) -> usize
+    requires { ⌜ i < length (now row) ⌝ }
     requires { ⌜ base ≤ 6 ⌝ }
-    ensures { λ r. ⌜ r ≡ orZero own 1 + base ⌝ }
+    ensures { λ r. ⌜ Tells (now (row .entry)) i own base r (now (row .exit)) ⌝ }
 {
-    cases::worth(own, 1) + base
+    row[i] = cases::worth(own, 1) + base;
+    i + 1
 }

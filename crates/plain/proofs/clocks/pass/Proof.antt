@@ -1,12 +1,13 @@
 -- `plain::clocks::pass` meets its contract: whatever stood before it stands after each sample.
-use Prim.Native.Nat.{ℕ, _-_, _<_, _≤_}
+use Prim.Native.Nat.{ℕ, _+_, _-_, _<_, _≤_}
 use mathlib.Core.Bool.{Bool}
 use mathlib.Core.List.{List, [], _∷_}
 use mathlib.Core.Path.{_≡_, refl, sym, _∙_}
 use native.Mathlib.Omega.{arith}
-use borrow.Author.Needs.{needs, scaled-fits}
+use native.Mathlib.Nat.{le-refl}
+use borrow.Author.Needs.{needs}
 use types.Run.{miss}
-use lib.ListN.{length, getD, length-set}
+use lib.ListN.{length, getD}
 use Rattle.part.specs.declared.state.Device.{Device}
 use Rattle.part.specs.declared.state.Load.{Load}
 use Rattle.part.specs.declared.state.State.{State}
@@ -16,8 +17,9 @@ use Rattle.plain.specs.Stands.{Stands}
 use Rattle.plain.specs.declared.clocks.Clocks.{Clocks}
 use Rattle.plain.specs.declared.clocks.Turn.{Turn}
 use Rattle.plain.specs.declared.rooms.Times.{Times}
-use Rattle.plain.proofs.Counting.{next-less, next-fits, as-long}
+use Rattle.plain.proofs.Counting.{next-less, as-long}
 use Rattle.plain.proofs.Clocking.{comes-plain}
+use Rattle.plain.proofs.Standing.{told-long}
 use Rattle.plain.proofs.Arms.{plain-turn}
 use Rattle.plain.proofs.clocks.pass.Statement.{statement}
 use Rattle.plain.proofs.clocks.pass.Tie as tie
@@ -37,6 +39,12 @@ passed {from} {i} {c} {c′} o f es ls {t} q p n =
     let z : i ≡ from → ⊥ = λ e. n (q ∙ rw (e, f e) p) in
     omega arith
 
+passes-on : {from i j : ℕ} → from ≤ i → j ≡ i + 1 → from ≤ j
+passes-on o e = omega (arith, o, e)
+
+not-first : {from i j : ℕ} → from ≤ i → j ≡ i + 1 → j ≡ from → ⊥
+not-first o e f = omega (arith, o, e, f)
+
 abbrev Inv-loop : tie.InvT-loop
 Inv-loop sends base elapsed levels row₀ from now₀ i₀ row now i =
     (length elapsed ≡ length levels)
@@ -49,55 +57,37 @@ abbrev μ-loop : tie.MeasureT-loop
 loop-holds : tie.Need-loop-holds Inv-loop μ-loop
 loop-holds c =
     let pre = c .before .before .before .pre in
-    (pre .0, pre .1 .0, record { onward = omega arith; first = λ e. refl; long = refl; stands = λ s array row₀ first t d m n g. g })
+    (pre .0, pre .1 .0, record { onward = le-refl _; first = λ e. refl; long = refl; stands = λ s array row₀ first t d m n g. g })
 
-mul-e : tie.Need-mul-e Inv-loop μ-loop
-mul-e c =
-    let es = c .before .before .before .before .before .args .elapsed .now in
-    let at = c .before .loop in
-    let h : at .i < length es = as-long _ _ _ (c .loop-test .taken) (at .inv .0) in
-    scaled-fits (at .i) (length es) 4 h (c .before .before .before .before .before .good .1 .1 .1 .0 .1)
-
-shared-slice-read-e : tie.Need-shared-slice-read-e Inv-loop μ-loop
-shared-slice-read-e c = as-long _ _ _ (c .before .loop-test .taken) (c .before .before .loop .inv .0)
-
-shared-slice-read-level : tie.Need-shared-slice-read-level Inv-loop μ-loop
-shared-slice-read-level c = search needs
-
-turn-of-requires : tie.Need-turn-of-requires Inv-loop μ-loop
-turn-of-requires c κs = tt
+turn-at-requires : tie.Need-turn-at-requires Inv-loop μ-loop
+turn-at-requires c κs = (c .before .loop .inv .0, c .loop-test .taken)
 
 enum-told : tie.Need-enum-told Inv-loop μ-loop
 enum-told c = search needs
 
-turned-requires : tie.Need-turned-requires Inv-loop μ-loop
-turned-requires c κs = comes-plain _ _ _ (sym (c .before .before .turn-of .ensures) ∙ c .enum-told .given .1)
+turned-at-requires : tie.Need-turned-at-requires Inv-loop μ-loop
+turned-at-requires c κs = (c .before .before .before .before .loop .inv .0, (c .before .before .before .loop-test .taken, comes-plain _ _ _ (c .before .before .turn-at .ensures) (c .enum-told .given .1)))
 
-said-requires : tie.Need-said-requires Inv-loop μ-loop
-said-requires c κs = c .before .before .before .before .before .before .before .before .before .before .before .pre .1 .1
-
-slice-write-row : tie.Need-slice-write-row Inv-loop μ-loop
-slice-write-row c =
-    let inv = c .before .before .before .before .before .before .before .before .loop .inv in
-    as-long _ _ _ (c .before .before .before .before .before .before .before .loop-test .taken) (inv .2 .long ∙ inv .1)
-
-add-i : tie.Need-add-i Inv-loop μ-loop
-add-i c = next-fits _ _ (c .before .before .before .before .before .before .before .loop-test .taken) (c .before .before .before .before .before .before .before .before .before .before .before .before .good .1 .1 .1 .1 .0 .0)
+tell-requires : tie.Need-tell-requires Inv-loop μ-loop
+tell-requires c κs =
+    let inv = c .before .before .before .before .before .before .loop .inv in
+    (as-long _ _ _ (c .before .before .before .before .before .loop-test .taken) (inv .2 .long ∙ inv .1), c .before .before .before .before .before .before .before .before .before .before .pre .1 .1)
 
 loop-less : tie.Need-loop-less Inv-loop μ-loop
-loop-less c = next-less _ _ (c .before .before .before .before .before .before .before .loop-test .taken)
+loop-less c = rw (c .before .before .tell .ensures .next) (next-less _ _ (c .before .before .before .before .before .before .before .before .loop-test .taken))
 
 loop-again : tie.Need-loop-again Inv-loop μ-loop
 loop-again c =
-    let at = c .before .before .before .before .before .before .before .before .loop in
-    let inv = at .inv .2 in (
+    let at = c .before .before .before .before .before .before .before .before .before .loop in
+    let inv = at .inv .2 in
+    let told = c .before .before .tell .ensures in (
       at .inv .0,
       at .inv .1,
       record {
-        onward = omega (arith, inv .onward);
-        first = λ e. absurd (omega (arith, inv .onward, e));
-        long = simp length-set (inv .long);
-        stands = λ s array row₀ first t d m n g. plain-turn (inv .stands s array row₀ first t d m n g) (c .before .before .before .before .before .before .before .loop-test .taken) _ _ _ (comes-plain _ _ _ (sym (c .before .before .before .before .turn-of .ensures) ∙ c .before .before .enum-told .given .1)) (c .before .turned .ensures) n (c .said .ensures);
+        onward = passes-on (inv .onward) (told .next);
+        first = λ e. absurd (not-first (inv .onward) (told .next) e);
+        long = told-long told ∙ inv .long;
+        stands = λ s array row₀ first t d m n g. plain-turn (inv .stands s array row₀ first t d m n g) (c .before .before .before .before .before .before .before .before .loop-test .taken) _ _ _ _ (comes-plain _ _ _ (c .before .before .before .before .before .before .before .turn-at .ensures) (c .before .before .before .before .before .enum-told .given .1)) (c .before .before .before .before .turned-at .ensures) n told;
       },
     )
 
@@ -110,14 +100,14 @@ returns c =
     record { onward = inv .onward; moves = λ p h. omega (arith, h, c .loop-test .left); long = inv .long; stands = inv .stands }
 
 same-length-2 : tie.Need-same-length-2 Inv-loop μ-loop
-same-length-2 c = c .before .before .before .before .before .loop .inv .2 .long
+same-length-2 c = c .before .before .before .loop .inv .2 .long
 
 returns-2 : tie.Need-returns-2 Inv-loop μ-loop
 returns-2 c =
-    let inv = c .before .before .before .before .before .loop .inv .2 in
+    let inv = c .before .before .before .loop .inv .2 in
     record {
       onward = inv .onward;
-      moves = λ p h. passed (inv .onward) (inv .first) (c .before .before .before .before .before .before .before .before .before .args .elapsed .now) (c .before .before .before .before .before .before .before .before .before .args .levels .now) (c .before .turn-of .ensures) p (λ e. miss (1 ∷ 2 ∷ 3 ∷ 4 ∷ 5 ∷ []) 0 tt (rw e at (c .match .keys2)));
+      moves = λ p h. passed (inv .onward) (inv .first) (c .before .before .before .before .before .before .before .args .elapsed .now) (c .before .before .before .before .before .before .before .args .levels .now) (c .before .turn-at .ensures) p (λ e. miss (1 ∷ 2 ∷ 3 ∷ 4 ∷ 5 ∷ []) 0 tt (rw e at (c .match .keys2)));
       long = inv .long;
       stands = inv .stands;
     }
@@ -129,15 +119,10 @@ pass-spec =
     Inv-loop
     μ-loop
     loop-holds
-    mul-e
-    shared-slice-read-e
-    shared-slice-read-level
-    turn-of-requires
+    turn-at-requires
     enum-told
-    turned-requires
-    said-requires
-    slice-write-row
-    add-i
+    turned-at-requires
+    tell-requires
     loop-less
     loop-again
     same-length

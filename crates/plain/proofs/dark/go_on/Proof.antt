@@ -1,14 +1,14 @@
 -- `plain::dark::go_on` meets its contract: before each sample a dark part stands where the samples so far have brought it.
-use Prim.Native.Nat.{ℕ, _+_, _-_, _<_}
+use Prim.Native.Nat.{ℕ, _-_}
 use mathlib.Core.Bool.{true}
 use mathlib.Core.Path.{_≡_, refl, sym, ap, _∙_}
-use native.Mathlib.Omega.{arith}
 use borrow.Author.Needs.{needs, scaled-fits}
-use lib.ListN.{length, length-set}
+use lib.ListN.{length}
 use Rattle.plain.specs.Rooms.{baseOf}
 use Rattle.plain.specs.Dark.{Dims}
-use Rattle.plain.proofs.Counting.{next-less, next-fits, as-long}
+use Rattle.plain.proofs.Counting.{next-less, as-long}
 use Rattle.plain.proofs.Going.{goes-none}
+use Rattle.plain.proofs.Standing.{told-long}
 use Rattle.plain.proofs.Darkness.{dark-goes}
 use Rattle.plain.proofs.dark.go_on.Statement.{statement}
 use Rattle.plain.proofs.dark.go_on.Tie as tie
@@ -37,8 +37,7 @@ mul-less : tie.Need-mul-less Inv-loop μ-loop
 mul-less c =
     let es = c .before .before .before .before .before .before .before .before .before .args .elapsed .now in
     let at = c .before .before .before .before .loop in
-    let h : at .i < length es = as-long _ _ _ (c .before .before .before .loop-test .taken) (at .inv .0) in
-    scaled-fits (at .i) (length es) 4 h (c .before .before .before .before .before .before .before .before .before .good .1 .1 .0 .1)
+    scaled-fits (at .i) (length es) 4 (as-long _ _ _ (c .before .before .before .loop-test .taken) (at .inv .0)) (c .before .before .before .before .before .before .before .before .before .good .1 .1 .0 .1)
 
 shared-slice-read-less : tie.Need-shared-slice-read-less Inv-loop μ-loop
 shared-slice-read-less c = as-long _ _ _ (c .before .before .before .before .loop-test .taken) (c .before .before .before .before .before .loop .inv .0)
@@ -55,31 +54,24 @@ sda-requires c κs = tt
 base-of-requires : tie.Need-base-of-requires Inv-loop μ-loop
 base-of-requires c κs = tt
 
-said-requires : tie.Need-said-requires Inv-loop μ-loop
-said-requires c κs = c .base-of .ensures .1
-
-slice-write-row : tie.Need-slice-write-row Inv-loop μ-loop
-slice-write-row c =
+tell-requires : tie.Need-tell-requires Inv-loop μ-loop
+tell-requires c κs =
     let inv = c .before .before .before .before .before .before .before .before .before .before .loop .inv in
-    as-long _ _ _ (c .before .before .before .before .before .before .before .before .before .loop-test .taken) (inv .2 .long ∙ inv .1)
-
-add-i : tie.Need-add-i Inv-loop μ-loop
-add-i c = next-fits _ _ (c .before .before .before .before .before .before .before .before .before .loop-test .taken) (c .before .before .before .before .before .before .before .before .before .before .before .before .before .before .before .good .1 .1 .1 .0 .0)
+    (as-long _ _ _ (c .before .before .before .before .before .before .before .before .before .loop-test .taken) (inv .2 .long ∙ inv .1), c .base-of .ensures .1)
 
 loop-less : tie.Need-loop-less Inv-loop μ-loop
-loop-less c = next-less _ _ (c .before .before .before .before .before .before .before .before .before .loop-test .taken)
+loop-less c = rw (c .before .before .tell .ensures .next) (next-less _ _ (c .before .before .before .before .before .before .before .before .before .before .before .before .loop-test .taken))
 
 loop-again : tie.Need-loop-again Inv-loop μ-loop
 loop-again c =
-    let at = c .before .before .before .before .before .before .before .before .before .before .loop in
+    let at = c .before .before .before .before .before .before .before .before .before .before .before .before .before .loop in
     let inv = at .inv .2 in
-    let v = sym (c .before .before .before .before .before .before .before .vcc .ensures) ∙ c .before .before .before .before .before .before .if1 .left in
-    let said = c .said .ensures ∙ ap (λ (n : ℕ). 1 + n) (c .before .base-of .ensures .0) in (
+    let v = sym (c .before .before .before .before .before .before .before .before .before .before .vcc .ensures) ∙ c .before .before .before .before .before .before .before .before .before .if1 .left in (
       at .inv .0,
       at .inv .1,
       record {
-        goes = λ s array h k. rw (c .before .before .sda .ensures, c .before .before .before .scl .ensures, c .before .before .before .before .less .ensures) (dark-goes s h (inv .goes s array h k) (at .inv .0) (at .inv .1) (c .before .before .before .before .before .before .before .before .before .loop-test .taken) v k (said ∙ ap (λ (n : ℕ). 1 + baseOf (c .before .before .before .before .before .before .before .before .before .before .before .before .before .before .before .args .high) true n) (c .before .before .before .before .less .ensures)));
-        long = simp length-set (inv .long);
+        goes = λ s array h k. rw (c .before .before .before .before .before .sda .ensures, c .before .before .before .before .before .before .scl .ensures, c .before .before .before .before .before .before .before .less .ensures) (dark-goes s h (inv .goes s array h k) (at .inv .0) (at .inv .1) (c .before .before .before .before .before .before .before .before .before .before .before .before .loop-test .taken) v k (c .before .before .before .base-of .ensures .0 ∙ ap (λ (n : ℕ). baseOf (c .before .before .before .before .before .before .before .before .before .before .before .before .before .before .before .before .before .before .args .high) true n) (c .before .before .before .before .before .before .before .less .ensures)) (c .before .before .tell .ensures));
+        long = told-long (c .before .before .tell .ensures) ∙ inv .long;
       },
     )
 
@@ -110,9 +102,7 @@ go-on-spec =
     scl-requires
     sda-requires
     base-of-requires
-    said-requires
-    slice-write-row
-    add-i
+    tell-requires
     loop-less
     loop-again
     same-length
