@@ -1,18 +1,17 @@
 -- What each turn of the loops makes of a state. Assumes nothing.
-use Prim.Native.Nat.{ℕ, _+_, _-_, _<_, _≤_}
-use mathlib.Core.Bool.{Bool, true, false, _&&_}
+use Prim.Native.Nat.{ℕ, _+_, _-_, _<_}
+use mathlib.Core.Bool.{Bool, true, false}
 use mathlib.Core.List.{List}
 use mathlib.Core.Path.{_≡_, refl, sym, ap, subst⁻¹, _∙_}
 use native.Mathlib.Omega.{arith}
 use native.Mathlib.Numerals.{add-one}
 use lib.Dec.{ltb}
-use lib.ListN.{length, getD, set}
+use lib.ListN.{length, getD}
 use Rattle.ground.specs.Cases.{orZero}
 use Rattle.ground.specs.Kind.{kindOf}
 use Rattle.part.specs.Page.{emptyLoad, filledOf}
-use Rattle.part.specs.Timers.{loadedOf, writes}
+use Rattle.part.specs.Timers.{loadedOf}
 use Rattle.ground.specs.declared.kinds.Kind.{Kind}
-use Rattle.part.specs.declared.state.Phase.the-variants.{Idle}
 use Rattle.part.specs.declared.state.Timers.{Timers}
 use Rattle.part.specs.declared.state.Watchdog.{Watchdog}
 use Rattle.part.specs.declared.state.Wire.{Wire}
@@ -25,23 +24,22 @@ use Rattle.wire.specs.declared.Sign.{Sign}
 use Rattle.wire.specs.declared.Sign.the-variants.{Quiet, Start, Stop, Bit, Byte, Ninth}
 use Rattle.control.specs.Register.{orderBy, orderOf, carriedOut}
 use Rattle.control.specs.declared.Order.the-variants.{Nothing}
-use Rattle.device.specs.Talk.{sendsIn, rested}
+use Rattle.device.specs.Talk.{sendsIn}
 use Rattle.device.specs.Bytes.{byteOf, keptBy, keptOf, Fills, ninthOf}
 use Rattle.device.specs.Ends.{startedOf, stoppedOf, endedOf}
-use Rattle.levels.specs.Level.{sclOf, sdaOf, wpOf, vccOf, pinBy}
+use Rattle.levels.specs.Level.{sclOf, wpOf, pinBy}
 use Rattle.part.specs.State.{withWatchdog}
 use Rattle.sample.specs.Sample.{startOf, heardBy, writtenBy, stopOf, byteStep}
-use Rattle.sample.specs.Run.{Part, partStep}
-use Rattle.clocks.specs.Goes.{Goes, partOf, movedOf}
+use Rattle.clocks.specs.Goes.{partOf, movedOf}
 use Rattle.clocks.specs.Rooms.{Room, Begins, timersAt, baseOf, Tells}
 use Rattle.clocks.specs.Clocks.{wireAt, spokenOf, lineAt, seenAt, turnBy, fallenBy, fallenAt, cutAt, Comes, smallBy, Turned}
-use Rattle.clocks.specs.Stands.{stateAt, Stands}
+use Rattle.clocks.specs.Stands.{Stands}
 use Rattle.clocks.specs.declared.turns.Clocks.{Clocks}
 use Rattle.clocks.specs.declared.turns.Turn.{Turn}
 use Rattle.clocks.specs.declared.rooms.Times.{Times}
 use Rattle.clocks.proofs.Going.{goes-on}
-use Rattle.clocks.proofs.Seeing.{Sees, unlike, eighth-bits, eighth-seen, ninth-bits, ninth-seen, start-seen, stop-seen}
-use Rattle.clocks.proofs.Timing.{time-passes, still-writes, begins}
+use Rattle.clocks.proofs.Seeing.{unlike, eighth-bits, eighth-seen, ninth-bits, ninth-seen, start-seen, stop-seen}
+use Rattle.clocks.proofs.Timing.{still-writes, begins}
 use Rattle.clocks.proofs.Standing.{signed, carried, answer-at}
 
 -- No more than a bit changes nothing but the device, and never the array.

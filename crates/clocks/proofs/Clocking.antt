@@ -1,12 +1,11 @@
 -- What a sample leaves of the clocks. Assumes nothing.
-use Prim.Native.Nat.{ℕ, _-_, _<_}
+use Prim.Native.Nat.{ℕ, _-_}
 use mathlib.Core.Bool.{Bool, true, false, _&&_}
 use mathlib.Core.Path.{_≡_, refl, sym, ap, _∙_}
 use lib.Dec.{ltb}
 use borrow.Author.Tests.{ltb-true}
 use Rattle.ground.specs.Cases.{highest}
 use Rattle.part.specs.declared.state.Device.{Device}
-use Rattle.wire.specs.Sign.{signOf, wireOf}
 use Rattle.wire.specs.declared.Sign.{Sign}
 use Rattle.wire.specs.declared.Sign.the-variants.{Quiet, Bit}
 use Rattle.part.specs.State.{withTalk}
@@ -17,7 +16,7 @@ use Rattle.levels.specs.Level.{sclOf, vccOf}
 use Rattle.clocks.specs.Clocks.{wireAt, spokenOf, lineAt, seenAt, turnBy, turnWhen, turnOf, Comes, smallBy, Turned}
 use Rattle.clocks.specs.declared.turns.Clocks.{Clocks}
 use Rattle.clocks.specs.declared.turns.Turn.{Turn}
-use Rattle.clocks.proofs.Seeing.{Sees, never, unlike}
+use Rattle.clocks.proofs.Seeing.{Sees, unlike}
 
 -- What the loops do not leave alone has VCC good, and no timer ends in it.
 comes-by : (a b : Bool) (t u : Turn) → turnWhen (a && b) t ≡ u → (u ≡ Turn.Other → ⊥) → (a ≡ true) × (b ≡ true) × (t ≡ u)

@@ -4,10 +4,10 @@ use mathlib.Core.Bool.{Bool, true, false, true≢false}
 use mathlib.Core.Path.{_≡_, refl, sym, ap, _∙_}
 use native.Mathlib.Omega.{arith}
 use lib.Dec.{ltb, eqb}
-use borrow.Author.Tests.{lt-ltb, le-ltb, eq-eqb, ne-eqb, ltb-true, ltb-false, eqb-true, eqb-false}
+use borrow.Author.Tests.{lt-ltb, le-ltb, ne-eqb, ltb-true, ltb-false, eqb-true, eqb-false}
 use Rattle.part.specs.declared.state.Frame.{Frame}
 use Rattle.part.specs.declared.state.Wire.{Wire}
-use Rattle.wire.specs.Sign.{pushed, cleanFrame, fallSignBy, fallSign, fallFrameBy, fallFrame, signBy, frameBy, signOf, wireOf}
+use Rattle.wire.specs.Sign.{pushed, cleanFrame, fallSignBy, fallSign, fallFrame, signBy, frameBy, signOf, wireOf}
 use Rattle.wire.specs.declared.Sign.{Sign}
 use Rattle.wire.specs.declared.Sign.the-variants.{Quiet, Start, Stop, Bit, Byte, Ninth}
 use Rattle.clocks.specs.Clocks.{turnBy}

@@ -1,12 +1,11 @@
 -- How one sample carries on what holds before each sample of the loops. Assumes nothing.
 use Prim.Native.Nat.{ℕ, _+_, _-_, _<_, _≤_}
-use mathlib.Core.Bool.{Bool, true, false, _&&_}
+use mathlib.Core.Bool.{Bool, true, false}
 use mathlib.Core.List.{List}
 use mathlib.Core.Path.{_≡_, refl, sym, ap, subst, _∙_}
 use native.Mathlib.Omega.{arith}
 use native.Mathlib.Numerals.{add-one}
-use lib.Dec.{ltb}
-use lib.ListN.{length, getD, set, length-set}
+use lib.ListN.{length, getD, length-set}
 use Rattle.ground.specs.Cases.{orZero}
 use Rattle.ground.specs.Kind.{kindOf}
 use Rattle.part.specs.declared.state.Timers.{Timers}
@@ -15,9 +14,9 @@ use Rattle.part.specs.declared.state.Device.{Device}
 use Rattle.part.specs.declared.state.Load.{Load}
 use Rattle.part.specs.declared.state.State.{State}
 use Rattle.wire.specs.declared.Sign.{Sign}
-use Rattle.levels.specs.Level.{sclOf, sdaOf, wpOf, vccOf, answerOf}
+use Rattle.levels.specs.Level.{sclOf, wpOf, vccOf, answerOf}
 use Rattle.sample.specs.Sample.{heardBy, writtenBy}
-use Rattle.sample.specs.Run.{Part, partStep}
+use Rattle.sample.specs.Run.{partStep}
 use Rattle.clocks.specs.Goes.{Goes, partOf, movedOf}
 use Rattle.clocks.specs.Rooms.{Room, timersAt, baseOf, Tells}
 use Rattle.clocks.specs.Clocks.{wireAt, spokenOf, lineAt, clocksOf}

@@ -1,13 +1,12 @@
 -- Time in which no timer ends, and the answer in it. Assumes nothing.
-use Prim.Native.Nat.{ℕ, zero, suc, _+_, _-_, _<_, _≤_}
+use Prim.Native.Nat.{ℕ, zero, suc, _-_, _<_, _≤_}
 use mathlib.Core.Bool.{Bool, true, false}
 use mathlib.Core.Path.{_≡_, refl, sym, ap, _∙_}
 use native.Mathlib.Omega.{arith}
 use native.Mathlib.Nat.{sub-zero}
-use lib.Dec.{ltb, eqb}
+use lib.Dec.{ltb}
 use borrow.Author.Tests.{lt-ltb, ne-eqb}
 use Rattle.part.specs.Timers.{timedOf, suppliedOf}
-use Rattle.part.specs.declared.state.Timers.{Timers}
 use Rattle.clocks.specs.Rooms.{Room, leftBy, timersAt}
 use Rattle.clocks.specs.declared.rooms.Times.{Times}
 

@@ -1,8 +1,8 @@
 -- One sample with VCC good in which no timer ends, by its sign. Assumes nothing.
-use Prim.Native.Nat.{ℕ, _+_, _-_, _<_, _≤_}
-use mathlib.Core.Bool.{Bool, true, false, _&&_}
+use Prim.Native.Nat.{ℕ}
+use mathlib.Core.Bool.{true, false, _&&_}
 use mathlib.Core.List.{List}
-use mathlib.Core.Path.{_≡_, refl, sym, ap, _∙_}
+use mathlib.Core.Path.{_≡_, ap, _∙_}
 use Rattle.part.specs.Timers.{timedOf, suppliedOf}
 use Rattle.part.specs.declared.state.Timers.{Timers}
 use Rattle.part.specs.declared.state.Wire.{Wire}
@@ -10,10 +10,9 @@ use Rattle.part.specs.declared.state.Device.{Device}
 use Rattle.part.specs.declared.state.Load.{Load}
 use Rattle.part.specs.declared.state.State.{State}
 use Rattle.wire.specs.declared.Sign.{Sign}
-use Rattle.wire.specs.Sign.{signOf, wireOf}
 use Rattle.levels.specs.Level.{sclOf, sdaOf, wpOf, vccOf}
-use Rattle.sample.specs.Sample.{opensOf, heardBy, writtenBy, signIn, wiredOf, stepOf, arrayOf}
-use Rattle.sample.specs.Run.{Part, partStep}
+use Rattle.sample.specs.Sample.{opensOf, heardBy, writtenBy, signIn, wiredOf}
+use Rattle.sample.specs.Run.{partStep}
 use Rattle.sample.proofs.Sampled.{step-heard, array-heard}
 use Rattle.clocks.specs.Goes.{partOf, movedOf}
 use Rattle.clocks.proofs.Seeing.{Sees}

@@ -5,7 +5,6 @@ use part::state::Timers;
 use part::state::Watchdog;
 use part::timers;
 ghost use mathlib.Core.Path.{_≡_};
-ghost use mathlib.Core.Bool.{Bool};
 ghost use Prim.Native.Nat.{_-_, _≤_, _<_};
 ghost use lib.ListN.{length};
 ghost use Rattle.part.specs.Timers.{loadedOf};

@@ -7,7 +7,6 @@ use part::state::Lines;
 use part::state::Talk;
 use part::state::Wire;
 ghost use mathlib.Core.Path.{_≡_};
-ghost use mathlib.Core.Bool.{Bool};
 ghost use Prim.Native.Nat.{_-_, _≤_, _<_};
 ghost use lib.ListN.{length, getD};
 ghost use Rattle.clocks.specs.Clocks.{wireAt, clocksOf, fallenAt, cutAt, turnBy, seenAt, turnOf, Comes, Turned};

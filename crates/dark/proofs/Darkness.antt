@@ -5,22 +5,20 @@ use mathlib.Core.List.{List}
 use mathlib.Core.Path.{_≡_, refl, sym, ap, _∙_}
 use native.Mathlib.Numerals.{add-one}
 use lib.Dec.{ltb}
-use lib.ListN.{length, getD, set}
+use lib.ListN.{length, getD}
 use Rattle.ground.specs.Cases.{orZero}
 use Rattle.ground.specs.Kind.{kindOf}
 use Rattle.part.specs.Timers.{timedOf, suppliedOf}
 use Rattle.part.specs.Page.{emptyLoad}
 use Rattle.part.specs.declared.state.Timers.{Timers}
-use Rattle.part.specs.declared.state.Watchdog.{Watchdog}
 use Rattle.part.specs.declared.state.Lines.{Lines}
 use Rattle.part.specs.declared.state.Wire.{Wire}
 use Rattle.part.specs.declared.state.Device.{Device}
 use Rattle.part.specs.declared.state.Load.{Load}
 use Rattle.part.specs.declared.state.State.{State}
-use Rattle.wire.specs.Sign.{cleanFrame}
 use Rattle.device.specs.Ends.{endedOf}
 use Rattle.levels.specs.Level.{sclOf, sdaOf, vccOf, answerOf, pinBy}
-use Rattle.sample.specs.Sample.{opensOf, resetOf, stepOf, arrayOf}
+use Rattle.sample.specs.Sample.{opensOf, resetOf}
 use Rattle.sample.specs.Run.{Part, partStep}
 use Rattle.sample.proofs.Sampled.{step-reset, array-reset}
 use Rattle.clocks.specs.Goes.{Goes, partOf, movedOf}

@@ -7,7 +7,6 @@ use part::state::Lines;
 use part::state::State;
 use part::timers;
 ghost use mathlib.Core.Path.{_≡_};
-ghost use mathlib.Core.Bool.{Bool};
 ghost use Prim.Native.Nat.{_≤_};
 ghost use lib.ListN.{length};
 ghost use Rattle.clocks.specs.Goes.{Goes, partOf};

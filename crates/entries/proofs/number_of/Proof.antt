@@ -3,11 +3,6 @@ use Rattle.entries.specs.Entries.{numberOf}
 use borrow.Author.Needs.{needs}
 use Rattle.entries.proofs.number_of.Statement.{statement}
 use Rattle.entries.proofs.number_of.Tie as tie
-use Rattle.entries.proofs.number_of.Reads as reads
-use Rattle.entries.proofs.number_of.Lts as lts
-use Rattle.ground.proofs.cases.worth.Reads as worth-reads
-use Rattle.entries.proofs.packed.Reads as packed-reads
-use Rattle.entries.proofs.role.Reads as role-reads
 
 enum-known-entry : tie.Need-enum-known-entry
 enum-known-entry c = search needs

@@ -3,7 +3,7 @@ use mathlib.Core.Path.{_≡_, sym, _∙_}
 use native.Mathlib.Omega.{arith}
 use native.Mathlib.Numerals.{add-one}
 use borrow.Author.Needs.{needs, scaled-fits}
-use lib.ListN.{length, getD, length-set}
+use lib.ListN.{getD, length-set}
 use Rattle.sample.specs.Run.{partStep}
 use Rattle.clocks.specs.Goes.{partOf}
 use Rattle.clocks.proofs.Going.{goes-none, goes-on, goes-then}
