@@ -7,7 +7,7 @@ use mathlib.Core.Path.{_≡_}
 use Rattle.ground.specs.Cases.{odd}
 use Rattle.ground.specs.Kind.{kindOf}
 use Rattle.ground.specs.Numbers.{mostBits, byteValues}
-use Rattle.part.specs.Page.{at, byteAt}
+use Rattle.page.specs.Page.{at, byteAt}
 use Rattle.part.specs.declared.state.Load.{Load}
 use Rattle.part.specs.declared.state.Phase.the-variants.{Send}
 use Rattle.part.specs.declared.state.Place.{Place}
@@ -15,7 +15,7 @@ use Rattle.part.specs.declared.state.State.{State}
 use Rattle.part.specs.declared.state.Talk.{Talk}
 use Rattle.wire.specs.Sign.{pushed}
 use Rattle.part.specs.State.{withDevice, withLoad, withTalk, withOut, withControl, withStored, withWel}
-use Rattle.device.specs.Talk.{sending}
+use Rattle.address.specs.Talk.{sending}
 use Rattle.sample.specs.Run.{Part, partStep}
 use Rattle.waves.specs.Waves.{Capture, after}
 use Rattle.demand3.specs.Sending.{Sent, nothing, sends, sendsArray, sentOf}

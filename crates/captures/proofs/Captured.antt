@@ -5,8 +5,9 @@ use mathlib.Core.Path.{_≡_, _∙_}
 use Rattle.ground.specs.declared.Reply.the-variants.{Accepted, Refused}
 use Rattle.ground.proofs.Verdicts.{is-accepted, is-refused}
 use Rattle.refusals.specs.Refusals.{powerOf}
-use Rattle.twin.specs.declared.replays.Replayed.{Replayed}
-use Rattle.twin.specs.Promises.{PowersUp, Replays}
+use Rattle.power.specs.declared.Replayed.{Replayed}
+use Rattle.power.specs.Promises.{PowersUp}
+use Rattle.twin.specs.Promises.{Replays}
 use Rattle.captures.specs.Once.{onceOf, Captures}
 
 module _ (part select stored : ℕ) (es ls array row : List ℕ) (u : Replayed) (up : PowersUp part select stored u) where

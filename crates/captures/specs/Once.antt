@@ -6,7 +6,7 @@ use Rattle.ground.specs.Verdict.{Verdict, accepted, refused, meant}
 use Rattle.ground.specs.declared.Reply.{Reply}
 use Rattle.refusals.specs.Refusals.{judgedOf, powerOf}
 use Rattle.sample.specs.Run.{Part}
-use Rattle.twin.specs.Power.{poweredUp}
+use Rattle.power.specs.Power.{poweredUp}
 use Rattle.twin.specs.Promises.{partAfter, rowAfter}
 
 -- Power-up's refusal comes before anything that the capture says (Refusal numbers, 1 to 10).

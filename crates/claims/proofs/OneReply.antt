@@ -4,7 +4,7 @@ use mathlib.Core.Path.{_≡_, refl, sym}
 use Rattle.ground.specs.Verdict.{meant}
 use Rattle.ground.proofs.Verdicts.{apart}
 use Rattle.ground.specs.Size.{sizeMeant}
-use Rattle.twin.specs.declared.replays.Replayed.{Replayed}
+use Rattle.power.specs.declared.Replayed.{Replayed}
 use Rattle.ground.specs.declared.kinds.Size.{Size}
 use Rattle.ground.specs.declared.kinds.Size.the-variants.{Bytes, Unknown}
 use Rattle.transfers.specs.declared.Listed.{Listed}

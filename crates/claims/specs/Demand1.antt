@@ -13,11 +13,12 @@ use Rattle.part.specs.declared.state.State.{State}
 use Rattle.ground.specs.Verdict.{accepted, refused, meant}
 use Rattle.refusals.specs.Refusals.{powerOf, judgedOf}
 use Rattle.ground.specs.declared.Reply.{Reply}
-use Rattle.twin.specs.declared.replays.Replayed.{Replayed}
+use Rattle.power.specs.declared.Replayed.{Replayed}
 use Rattle.ground.specs.declared.kinds.Size.{Size}
 use Rattle.ground.specs.Size.{sizeMeant, SizesPart}
-use Rattle.twin.specs.Power.{poweredUp}
-use Rattle.twin.specs.Promises.{PowersUp, Replays}
+use Rattle.power.specs.Power.{poweredUp}
+use Rattle.power.specs.Promises.{PowersUp}
+use Rattle.twin.specs.Promises.{Replays}
 use lib.Dec.{leb}
 use Rattle.intel.specs.Intel.{intel}
 use Rattle.forms.specs.Reading.{bad, readingOf}

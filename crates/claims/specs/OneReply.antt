@@ -7,9 +7,10 @@ use mathlib.Core.List.{List}
 use mathlib.Core.Path.{_≡_}
 use Rattle.part.specs.declared.state.State.{State}
 use Rattle.ground.specs.declared.Reply.{Reply}
-use Rattle.twin.specs.declared.replays.Replayed.{Replayed}
+use Rattle.power.specs.declared.Replayed.{Replayed}
 use Rattle.ground.specs.Size.{SizesPart}
-use Rattle.twin.specs.Promises.{PowersUp, Replays, ReadsRegister}
+use Rattle.power.specs.Promises.{PowersUp, ReadsRegister}
+use Rattle.twin.specs.Promises.{Replays}
 use Rattle.intel.specs.Intel.{intel}
 use Rattle.image.specs.Promises.{ReadsImage, WritesImage}
 use Rattle.texts.specs.Laying.{Starts}

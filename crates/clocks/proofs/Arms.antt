@@ -9,8 +9,8 @@ use lib.Dec.{ltb}
 use lib.ListN.{length, getD}
 use Rattle.ground.specs.Cases.{orZero}
 use Rattle.ground.specs.Kind.{kindOf}
-use Rattle.part.specs.Page.{emptyLoad, filledOf}
-use Rattle.part.specs.Timers.{loadedOf}
+use Rattle.page.specs.Page.{emptyLoad, filledOf}
+use Rattle.timers.specs.Timers.{loadedOf}
 use Rattle.ground.specs.declared.kinds.Kind.{Kind}
 use Rattle.part.specs.declared.state.Timers.{Timers}
 use Rattle.part.specs.declared.state.Watchdog.{Watchdog}
@@ -24,9 +24,10 @@ use Rattle.wire.specs.declared.Sign.{Sign}
 use Rattle.wire.specs.declared.Sign.the-variants.{Quiet, Start, Stop, Bit, Byte, Ninth}
 use Rattle.control.specs.Register.{orderBy, orderOf, carriedOut}
 use Rattle.control.specs.declared.Order.the-variants.{Nothing}
-use Rattle.device.specs.Talk.{sendsIn}
-use Rattle.device.specs.Bytes.{byteOf, keptBy, keptOf, Fills, ninthOf}
-use Rattle.device.specs.Ends.{startedOf, stoppedOf, endedOf}
+use Rattle.address.specs.Talk.{sendsIn}
+use Rattle.device.specs.Bytes.{byteOf, keptBy, keptOf, Fills}
+use Rattle.bits.specs.Bits.{ninthOf}
+use Rattle.ends.specs.Ends.{startedOf, stoppedOf, endedOf}
 use Rattle.levels.specs.Level.{sclOf, wpOf, pinBy}
 use Rattle.part.specs.State.{withWatchdog}
 use Rattle.sample.specs.Sample.{startOf, heardBy, writtenBy, stopOf, byteStep}

@@ -9,9 +9,9 @@ use Rattle.part.specs.declared.state.Device.{Device}
 use Rattle.wire.specs.declared.Sign.{Sign}
 use Rattle.wire.specs.declared.Sign.the-variants.{Quiet, Bit}
 use Rattle.part.specs.State.{withTalk}
-use Rattle.device.specs.Talk.{sendsIn, shiftedOf}
-use Rattle.device.specs.Bytes.{bitOf}
-use Rattle.device.proofs.Phases.{bit-stays, bit-sent}
+use Rattle.address.specs.Talk.{sendsIn, shiftedOf}
+use Rattle.bits.specs.Bits.{bitOf}
+use Rattle.bits.proofs.Phases.{bit-stays, bit-sent}
 use Rattle.levels.specs.Level.{sclOf, vccOf}
 use Rattle.clocks.specs.Clocks.{wireAt, spokenOf, lineAt, seenAt, turnBy, turnWhen, turnOf, Comes, smallBy, Turned}
 use Rattle.clocks.specs.declared.turns.Clocks.{Clocks}

@@ -6,7 +6,7 @@ use native.Mathlib.Omega.{arith}
 use native.Mathlib.Nat.{sub-zero}
 use lib.Dec.{ltb}
 use borrow.Author.Tests.{lt-ltb, ne-eqb}
-use Rattle.part.specs.Timers.{timedOf, suppliedOf}
+use Rattle.timers.specs.Timers.{timedOf, suppliedOf}
 use Rattle.clocks.specs.Rooms.{Room, leftBy, timersAt}
 use Rattle.clocks.specs.declared.rooms.Times.{Times}
 

@@ -12,8 +12,8 @@ use Rattle.wire.specs.Sign.{pushed, allButOne, signOf, wireOf}
 use Rattle.wire.specs.declared.Sign.{Sign}
 use Rattle.wire.specs.declared.Sign.the-variants.{Quiet, Start, Stop, Bit, Byte, Ninth}
 use Rattle.part.specs.State.{withTalk}
-use Rattle.device.specs.Talk.{rested, sendsIn}
-use Rattle.device.specs.Bytes.{bitOf}
+use Rattle.address.specs.Talk.{rested, sendsIn}
+use Rattle.bits.specs.Bits.{bitOf}
 use Rattle.levels.specs.Level.{sclOf, sdaOf, vccOf}
 use Rattle.clocks.specs.declared.turns.Clocks.{Clocks}
 use Rattle.clocks.specs.declared.turns.Turn.{Turn}

@@ -8,7 +8,7 @@ use Rattle.ground.specs.Kind.{kindOf}
 use Rattle.part.specs.declared.state.Device.{Device}
 use Rattle.part.specs.declared.state.Load.{Load}
 use Rattle.part.specs.declared.state.State.{State}
-use Rattle.device.specs.Talk.{sendsIn}
+use Rattle.address.specs.Talk.{sendsIn}
 use Rattle.clocks.specs.Goes.{Goes, partOf, movedOf}
 use Rattle.clocks.specs.Clocks.{wireAt, spokenOf, turnOf}
 use Rattle.clocks.specs.Rooms.{Room, timersAt, baseOf}

@@ -3,11 +3,10 @@ use ground::cases;
 use levels::answers;
 use part::state::Timers;
 use part::state::Watchdog;
-use part::timers;
 ghost use mathlib.Core.Path.{_≡_};
 ghost use Prim.Native.Nat.{_-_, _≤_, _<_};
 ghost use lib.ListN.{length};
-ghost use Rattle.part.specs.Timers.{loadedOf};
+ghost use Rattle.timers.specs.Timers.{loadedOf};
 ghost use Rattle.clocks.specs.Rooms.{Room, Begins, leftBy, timersAt, baseOf, Tells};
 
 // Where no timer runs any time would do; this one outlasts most captures.

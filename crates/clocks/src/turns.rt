@@ -1,6 +1,5 @@
 // The clocks of a byte: samples that show no more than a bit below the eighth.
 use crate::rooms;
-use device::bits;
 use levels::answers;
 use part::state::Frame;
 use part::state::Lines;

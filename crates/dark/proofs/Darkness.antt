@@ -8,15 +8,15 @@ use lib.Dec.{ltb}
 use lib.ListN.{length, getD}
 use Rattle.ground.specs.Cases.{orZero}
 use Rattle.ground.specs.Kind.{kindOf}
-use Rattle.part.specs.Timers.{timedOf, suppliedOf}
-use Rattle.part.specs.Page.{emptyLoad}
+use Rattle.timers.specs.Timers.{timedOf, suppliedOf}
+use Rattle.page.specs.Page.{emptyLoad}
 use Rattle.part.specs.declared.state.Timers.{Timers}
 use Rattle.part.specs.declared.state.Lines.{Lines}
 use Rattle.part.specs.declared.state.Wire.{Wire}
 use Rattle.part.specs.declared.state.Device.{Device}
 use Rattle.part.specs.declared.state.Load.{Load}
 use Rattle.part.specs.declared.state.State.{State}
-use Rattle.device.specs.Ends.{endedOf}
+use Rattle.ends.specs.Ends.{endedOf}
 use Rattle.levels.specs.Level.{sclOf, sdaOf, vccOf, answerOf, pinBy}
 use Rattle.sample.specs.Sample.{opensOf, resetOf}
 use Rattle.sample.specs.Run.{Part, partStep}

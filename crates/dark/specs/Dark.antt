@@ -6,7 +6,7 @@ use mathlib.Core.Path.{_≡_}
 use lib.ListN.{length}
 use Rattle.ground.specs.Numbers.{resetHold}
 use Rattle.ground.specs.Kind.{kindOf}
-use Rattle.part.specs.Page.{emptyLoad}
+use Rattle.page.specs.Page.{emptyLoad}
 use Rattle.part.specs.declared.state.Device.{Device}
 use Rattle.part.specs.declared.state.Lines.{Lines}
 use Rattle.part.specs.declared.state.Timers.{Timers}
@@ -15,7 +15,7 @@ use Rattle.part.specs.declared.state.Wire.{Wire}
 use Rattle.part.specs.declared.state.State.{State}
 use Rattle.wire.specs.Sign.{cleanFrame}
 use Rattle.part.specs.State.{withControl}
-use Rattle.device.specs.Ends.{endedOf}
+use Rattle.ends.specs.Ends.{endedOf}
 use Rattle.sample.specs.Sample.{latchedBy}
 use Rattle.clocks.specs.Goes.{Goes, partOf, movedOf}
 use Rattle.dark.specs.declared.Dim.{Dim}

@@ -5,7 +5,6 @@ use ground::kinds;
 use levels::answers;
 use part::state::Lines;
 use part::state::State;
-use part::timers;
 ghost use mathlib.Core.Path.{_≡_};
 ghost use Prim.Native.Nat.{_≤_};
 ghost use lib.ListN.{length};

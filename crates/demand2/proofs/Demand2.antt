@@ -15,11 +15,12 @@ use Rattle.ground.specs.Kind.{kindOf}
 use Rattle.part.specs.declared.state.State.{State}
 use Rattle.levels.specs.Level.{answerOf}
 use Rattle.ground.specs.Verdict.{Verdict, accepted, meant}
-use Rattle.refusals.specs.Refusals.{sampleBy, samplesOf, judgedBy, judgedOf, inRange}
+use Rattle.limits.specs.Samples.{sampleBy, samplesOf}
+use Rattle.refusals.specs.Refusals.{judgedBy, judgedOf, inRange}
 use Rattle.ground.specs.declared.Reply.the-variants.{Accepted}
 use Rattle.ground.proofs.Verdicts.{apart}
 use Rattle.refusals.proofs.Laws.{rows-equal}
-use Rattle.twin.specs.declared.replays.Replayed.{Replayed}
+use Rattle.power.specs.declared.Replayed.{Replayed}
 use Rattle.sample.specs.Run.{Part, partStep, runOf, answersOf}
 use Rattle.twin.specs.Promises.{Replays, Runs}
 use Rattle.demand2.specs.Demand2.{ByRules, Pieces, Counted, Demand2}

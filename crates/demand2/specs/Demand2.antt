@@ -15,7 +15,7 @@ use Rattle.levels.specs.Level.{answerOf}
 use Rattle.ground.specs.Verdict.{accepted}
 use Rattle.refusals.specs.Refusals.{judgedOf}
 use Rattle.ground.specs.declared.Reply.the-variants.{Accepted}
-use Rattle.twin.specs.declared.replays.Replayed.{Replayed}
+use Rattle.power.specs.declared.Replayed.{Replayed}
 use Rattle.sample.specs.Run.{Part, runOf, answersOf}
 use Rattle.twin.specs.Promises.{Replays, Runs}
 

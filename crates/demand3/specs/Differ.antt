@@ -13,7 +13,7 @@ use mathlib.Core.Path.{_≡_}
 use lib.Dec.{eqb}
 use lib.ListN.{length, getD, take}
 use Rattle.ground.specs.Numbers.{pageSize}
-use Rattle.part.specs.Page.{pageOf, at, inPage}
+use Rattle.page.specs.Page.{pageOf, at, inPage}
 use Rattle.part.specs.declared.state.State.{State}
 use Rattle.wire.specs.declared.Sign.the-variants.{Quiet, Start, Stop, Bit, Byte, Ninth}
 use Rattle.part.specs.State.{withDevice, withTalk, withOut}

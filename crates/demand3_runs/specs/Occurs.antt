@@ -7,7 +7,7 @@ use mathlib.Core.Path.{_≡_}
 use lib.ListN.{length, set, replicate}
 use Rattle.ground.specs.Numbers.{x4323, smallSize, writeTime}
 use Rattle.sample.specs.Run.{Part, partStep}
-use Rattle.twin.specs.Power.{poweredUp}
+use Rattle.power.specs.Power.{poweredUp}
 use Rattle.demand3.specs.Sending.{nothing}
 use Rattle.demand3.specs.Differ.{When, never, sample, EqualBut, firstReach, firstDiff, firstCover, elsewhere, sentAfter, coversNone}
 use Rattle.waves.specs.Waves.{Capture, joined, upTo, after, brisk, wait, awake, pageWrite, registerWrite, readFrom}

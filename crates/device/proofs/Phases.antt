@@ -1,86 +1,16 @@
--- What a byte, a bit and a ninth bit do in each phase. Assumes nothing.
+-- What a byte does in each phase. Assumes nothing.
 use Prim.Native.Nat.{ℕ}
-use mathlib.Core.Bool.{Bool, true, false, _&&_}
-use mathlib.Core.List.{List}
+use mathlib.Core.Bool.{Bool, true, _&&_, true≢false}
 use mathlib.Core.Path.{_≡_, refl, ap, sym}
-use native.Mathlib.Omega.{arith}
 use Rattle.ground.specs.declared.kinds.Kind.{Kind}
 use Rattle.part.specs.declared.state.Phase.{Phase}
 use Rattle.part.specs.declared.state.Phase.the-variants.{Idle, Silent, Slave, High, Low, Data, Register, Send, SendRegister}
 use Rattle.part.specs.declared.state.Device.{Device}
 use Rattle.part.specs.declared.state.Load.{Load}
 use Rattle.part.specs.State.{withTalk}
-use Rattle.device.specs.Talk.{released, rested, sendsIn}
-use Rattle.device.specs.Bytes.{slaveOf, highOf, lowOf, takenOf, dataBy, registerBy, registerSent, byteIn, byteOf, keptBy, expectsData, keptOf, nextBit, bitIn, bitOf, fetchRegister, answeredBy, ninthIn, ninthOf}
-
--- The five phases in which a byte is heard.
-abbrev pub hears : Phase → Bool
-hears Idle = false
-hears Silent = false
-hears Slave = true
-hears High = true
-hears Low = true
-hears Data = true
-hears Register = true
-hears Send = false
-hears SendRegister = false
-
--- True is not false.
-apart : true ≡ false → ⊥
-apart e = let z : _≡_ {A = ℕ} 0 1 = cc in omega arith
-
--- A bit by phase, where nothing is sent.
-bit-none : (p : Phase) (d : Device) → sendsIn p ≡ false → bitIn p d ≡ d
-bit-none Idle d h = refl
-bit-none Silent d h = refl
-bit-none Slave d h = refl
-bit-none High d h = refl
-bit-none Low d h = refl
-bit-none Data d h = refl
-bit-none Register d h = refl
-bit-none Send d h = absurd (apart h)
-bit-none SendRegister d h = absurd (apart h)
-
--- A bit changes nothing but in the phases that send.
-pub bit-stays : (d : Device) → sendsIn (d .talk .phase) ≡ false → bitOf d ≡ d
-unfolding bitOf
-bit-stays d h = bit-none (d .talk .phase) d h
-
--- A bit by phase, where a byte is sent.
-bit-next : (p : Phase) (d : Device) → sendsIn p ≡ true → bitIn p d ≡ nextBit p d
-bit-next Idle d h = absurd (apart (sym h))
-bit-next Silent d h = absurd (apart (sym h))
-bit-next Slave d h = absurd (apart (sym h))
-bit-next High d h = absurd (apart (sym h))
-bit-next Low d h = absurd (apart (sym h))
-bit-next Data d h = absurd (apart (sym h))
-bit-next Register d h = absurd (apart (sym h))
-bit-next Send d h = refl
-bit-next SendRegister d h = refl
-
--- In the phases that send, a bit brings the next bit out.
-pub bit-sent : (d : Device) → sendsIn (d .talk .phase) ≡ true → bitOf d ≡ nextBit (d .talk .phase) d
-unfolding bitOf
-bit-sent d h = bit-next (d .talk .phase) d h
-
--- The ninth fall by phase, where a byte is heard.
-ninth-heard : (p : Phase) (k : Kind) (array : List ℕ) (b : Bool) (d : Device) → hears p ≡ true
-    → ninthIn p k array b d ≡ withTalk d (released (d .talk))
-ninth-heard Idle k array b d h = absurd (apart (sym h))
-ninth-heard Silent k array b d h = absurd (apart (sym h))
-ninth-heard Slave k array b d h = refl
-ninth-heard High k array b d h = refl
-ninth-heard Low k array b d h = refl
-ninth-heard Data k array b d h = refl
-ninth-heard Register k array b d h = refl
-ninth-heard Send k array b d h = absurd (apart (sym h))
-ninth-heard SendRegister k array b d h = absurd (apart (sym h))
-
--- In the phases that hear, the ninth fall releases SDA.
-pub ninth-releases : (k : Kind) (array : List ℕ) (b : Bool) (d : Device) → hears (d .talk .phase) ≡ true
-    → ninthOf k array b d ≡ withTalk d (released (d .talk))
-unfolding ninthOf
-ninth-releases k array b d h = ninth-heard (d .talk .phase) k array b d h
+use Rattle.address.specs.Talk.{rested}
+use Rattle.address.specs.Address.{slaveOf, highOf, lowOf}
+use Rattle.device.specs.Bytes.{takenOf, dataBy, registerBy, registerSent, byteIn, byteOf, keptBy, expectsData, keptOf}
 
 -- The load by phase, outside array data.
 kept-none : (p : Phase) (k : Kind) (d : Device) (v : ℕ) (l : Load) → (p ≡ Data → ⊥) → keptBy (expectsData p && takenOf k d) d v l ≡ l
@@ -103,27 +33,6 @@ kept-stays k d v l h = kept-none (d .talk .phase) k d v l h
 pub kept-data : (k : Kind) (d : Device) (v : ℕ) (l : Load) → d .talk .phase ≡ Data → keptOf k d v l ≡ keptBy (takenOf k d) d v l
 unfolding keptOf
 kept-data k d v l e = ap (λ (p : Phase). keptBy (expectsData p && takenOf k d) d v l) e
-
-module _ (k : Kind) (array : List ℕ) (b : Bool) (d : Device) where
-  -- An idle part does nothing at a ninth fall.
-  pub ninth-idle : d .talk .phase ≡ Idle → ninthOf k array b d ≡ d
-  unfolding ninthOf
-  ninth-idle e = ap (λ (p : Phase). ninthIn p k array b d) e
-
-  -- A silent part does nothing at a ninth fall.
-  pub ninth-silent : d .talk .phase ≡ Silent → ninthOf k array b d ≡ d
-  unfolding ninthOf
-  ninth-silent e = ap (λ (p : Phase). ninthIn p k array b d) e
-
-  -- While the array is sent, a low ninth bit fetches the byte at the counter, a high one silences the part.
-  pub ninth-send : d .talk .phase ≡ Send → ninthOf k array b d ≡ answeredBy b k array d
-  unfolding ninthOf
-  ninth-send e = ap (λ (p : Phase). ninthIn p k array b d) e
-
-  -- The ninth fall after a slave byte that asks for the register fetches it.
-  pub ninth-register : d .talk .phase ≡ SendRegister → ninthOf k array b d ≡ fetchRegister d
-  unfolding ninthOf
-  ninth-register e = ap (λ (p : Phase). ninthIn p k array b d) e
 
 module _ (k : Kind) (s : ℕ) (d : Device) (v : ℕ) where
   -- An idle part does nothing at a byte.
@@ -173,15 +82,15 @@ module _ (k : Kind) (s : ℕ) (d : Device) (v : ℕ) where
 
 -- A byte by phase, where array data is expected.
 data-in : (p : Phase) (k : Kind) (select : ℕ) (d : Device) (v : ℕ) → expectsData p ≡ true → byteIn p k select d v ≡ dataBy (takenOf k d) d
-data-in Idle k select d v h = absurd (apart (sym h))
-data-in Silent k select d v h = absurd (apart (sym h))
-data-in Slave k select d v h = absurd (apart (sym h))
-data-in High k select d v h = absurd (apart (sym h))
-data-in Low k select d v h = absurd (apart (sym h))
+data-in Idle k select d v h = absurd (true≢false (sym h))
+data-in Silent k select d v h = absurd (true≢false (sym h))
+data-in Slave k select d v h = absurd (true≢false (sym h))
+data-in High k select d v h = absurd (true≢false (sym h))
+data-in Low k select d v h = absurd (true≢false (sym h))
 data-in Data k select d v h = refl
-data-in Register k select d v h = absurd (apart (sym h))
-data-in Send k select d v h = absurd (apart (sym h))
-data-in SendRegister k select d v h = absurd (apart (sym h))
+data-in Register k select d v h = absurd (true≢false (sym h))
+data-in Send k select d v h = absurd (true≢false (sym h))
+data-in SendRegister k select d v h = absurd (true≢false (sym h))
 
 -- Where array data is expected, a byte is that.
 pub byte-is-data : (k : Kind) (select : ℕ) (d : Device) (v : ℕ) → expectsData (d .talk .phase) ≡ true

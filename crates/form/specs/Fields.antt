@@ -2,7 +2,7 @@
 use Prim.Native.Nat.{ℕ, min}
 use mathlib.Core.Bool.{cond}
 use lib.Dec.{eqb}
-use Rattle.part.specs.Page.{at}
+use Rattle.page.specs.Page.{at}
 use Rattle.part.specs.State.{withChip, withTimers, withWire, withDevice, withWrite, withHold, withWatchdog, withCounter, withControl, withStored}
 use Rattle.part.specs.declared.state.Chip.{Chip}
 use Rattle.part.specs.declared.state.Timers.{Timers}

@@ -12,8 +12,7 @@ use borrow.Author.Tests.{lt-ltb, eq-eqb}
 use Rattle.ground.specs.Numbers.{byteValues}
 use Rattle.hexfile.specs.Pairs.{textOf, sumsToZero, checkOf}
 use Rattle.hexfile.proofs.PairLaws.{length-textOf}
-use Rattle.intel.specs.Intel.{colon, dataType, endType, charactersIn, bytesOf, countOf, addressOf, typeOf, dataOf}
-use Rattle.intel.specs.Intel.{wellFormed, typed, fieldsOf, recordLine, intel}
+use Rattle.intel.specs.Intel.{colon, dataType, endType, charactersIn, bytesOf, countOf, addressOf, typeOf, dataOf, wellFormed, typed, fieldsOf, recordLine, intel}
 use Rattle.round_trip.specs.Words.{allBytes}
 use Rattle.round_trip.specs.Sound.{Written, SaysRow, SaysEnd}
 use Rattle.round_trip.proofs.Tests.{bytes-append}

@@ -13,8 +13,7 @@ use Rattle.ground.specs.Numbers.{byteValues}
 use Rattle.hexfile.specs.Pairs.{paired, pairsOf, textOf, sumsToZero}
 use Rattle.ground.proofs.Tests.{and-split}
 use Rattle.hexfile.proofs.PairLaws.{length-pairsOf, text-pairs}
-use Rattle.intel.specs.Intel.{colon, charactersIn, bytesOf, countOf, addressOf, typeOf, dataOf, wellFormed}
-use Rattle.intel.specs.Intel.{fieldsOf, recordLine}
+use Rattle.intel.specs.Intel.{colon, charactersIn, bytesOf, countOf, addressOf, typeOf, dataOf, wellFormed, fieldsOf, recordLine}
 use Rattle.round_trip.specs.Words.{allBytes}
 use Rattle.round_trip.proofs.Tests.{bytes-at, bytes-parts}
 use Rattle.intel_trip.proofs.Spelling.{pairs-bytes, checked, check-last}

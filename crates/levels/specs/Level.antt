@@ -3,7 +3,7 @@ use Prim.Native.Nat.{ℕ, _+_, _/_}
 use mathlib.Core.Bool.{Bool, true, false, not}
 use Rattle.ground.specs.Cases.{orZero, odd}
 use Rattle.ground.specs.Kind.{kindOf}
-use Rattle.part.specs.Timers.{writes}
+use Rattle.timers.specs.Timers.{writes}
 use Rattle.part.specs.declared.state.State.{State}
 
 -- Level bit 0 is SCL (What goes in and what comes out).

@@ -5,8 +5,8 @@ use mathlib.Core.Bool.{Bool, true, false, not}
 use mathlib.Core.Path.{_≡_, refl}
 use native.Mathlib.Omega.{arith}
 use borrow.Author.Tests.{le-leb, le-ltb}
-use Rattle.part.specs.Lock.{blockCode, extentOf, lockedOf}
-use Rattle.part.specs.Page.{at, pageOf}
+use Rattle.lock.specs.Lock.{blockCode, extentOf, lockedOf}
+use Rattle.page.specs.Page.{at, pageOf}
 use Rattle.ground.specs.declared.kinds.Kind.{Kind}
 use Rattle.part.specs.declared.state.Device.{Device}
 use Rattle.device.specs.Bytes.{takenOf, dataBy, byteOf}

@@ -2,8 +2,8 @@
 use Prim.Native.Nat.{ℕ}
 use mathlib.Core.Bool.{Bool, true, false}
 use mathlib.Core.Path.{_≡_}
-use Rattle.part.specs.Lock.{blockCode, lockedOf}
-use Rattle.part.specs.Page.{at}
+use Rattle.lock.specs.Lock.{blockCode, lockedOf}
+use Rattle.page.specs.Page.{at}
 use Rattle.ground.specs.declared.kinds.Kind.{Kind}
 use Rattle.part.specs.declared.state.Phase.the-variants.{Data}
 use Rattle.part.specs.declared.state.Device.{Device}

@@ -1,4 +1,1 @@
 pub mod State
-pub mod Lock
-pub mod Timers
-pub mod Page

@@ -1,5 +1,2 @@
-// The part at rest: what its state holds, and the leaves that every layer above stands on.
-pub mod lock;
-pub mod page;
+// What the state of the part holds. The leaves that work on it stand in crates of their own.
 pub mod state;
-pub mod timers;

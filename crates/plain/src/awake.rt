@@ -5,12 +5,8 @@ use clocks::rooms::Times;
 use clocks::turns;
 use clocks::turns::Clocks;
 use clocks::turns::Turn;
-use device::bits;
-use device::bytes;
-use device::ends;
 use ground::kinds;
 use ground::kinds::Kind;
-use part::page;
 use part::state::Device;
 use part::state::Load;
 use part::state::PAGE;
@@ -99,14 +95,14 @@ fn go_on(
             Turn::Eighth => {
                 let d = spoken(device, now);
                 let v = wire::push(now.shift, now.bit);
-                if bytes::fills(kind, d) {
+                if device::fills(kind, d) {
                     let place = d.counter;
                     let index = (place.0 % PAGE) as usize;
                     load.bytes[index] = v;
                     load.marks[index] = true;
                     empty = false;
                 }
-                device = bytes::byte(kind, select, d, v);
+                device = device::byte(kind, select, d, v);
                 now = turns::fallen(now, device.talk, elapsed, levels, i);
                 i = rooms::tell(row, i, now.own, base);
             }

@@ -11,8 +11,8 @@ use borrow.Author.Tests.{eq-eqb, lt-ltb, le-leb, ltb-true, leb-true}
 use Rattle.ground.specs.Numbers.{writeTime, resetHold, longWatch, mostSelect, mostBits, registerAddress}
 use Rattle.ground.specs.Cases.{odd, middle}
 use Rattle.ground.specs.Kind.{kindOf, known}
-use Rattle.part.specs.Timers.{timedOf}
-use Rattle.part.specs.Page.{marked}
+use Rattle.timers.specs.Timers.{timedOf}
+use Rattle.page.specs.Page.{marked}
 use Rattle.ground.specs.declared.kinds.Kind.{Kind}
 use Rattle.part.specs.declared.state.BusAddress.{BusAddress}
 use Rattle.part.specs.declared.state.Phase.{Phase}
@@ -25,7 +25,7 @@ use Rattle.part.specs.declared.state.Load.{Load}
 use Rattle.part.specs.declared.state.State.{State}
 use Rattle.ground.proofs.Tests.{and-split}
 use Rattle.ground.proofs.Known.{Sound, kind-sound}
-use Rattle.part.proofs.Places.{array-stays, read-stays}
+use Rattle.page.proofs.Places.{array-stays, read-stays}
 use Rattle.wire.specs.Sign.{wireOf}
 use Rattle.wire.specs.declared.Sign.{Sign}
 use Rattle.wire.specs.declared.Sign.the-variants.{Quiet, Start, Stop, Bit, Byte, Ninth}
@@ -33,9 +33,11 @@ use Rattle.control.specs.declared.Order.{Order}
 use Rattle.control.specs.declared.Order.the-variants.{SetWel, ClearWel, SetRwel, Take, Nothing}
 use Rattle.control.specs.Register.{plainOf, orderOf, carriedOut, takesTime}
 use Rattle.refusals.specs.Refusals.{storable, timersInRange, inRange}
-use Rattle.device.specs.Talk.{addressOf, matches}
-use Rattle.device.specs.Bytes.{slaveBy, slaveOf, highOf, addressBy, lowOf, takenOf, dataBy, registerBy, byteIn, byteOf, keptOf, bitIn, bitOf, answeredBy, ninthIn, ninthOf}
-use Rattle.device.specs.Ends.{startedOf, stoppedOf, endedOf}
+use Rattle.address.specs.Talk.{addressOf, matches}
+use Rattle.address.specs.Address.{slaveBy, slaveOf, highOf, addressBy, lowOf}
+use Rattle.device.specs.Bytes.{takenOf, dataBy, registerBy, byteIn, byteOf, keptOf}
+use Rattle.bits.specs.Bits.{bitIn, bitOf, answeredBy, ninthIn, ninthOf}
+use Rattle.ends.specs.Ends.{startedOf, stoppedOf, endedOf}
 use Rattle.levels.specs.Level.{sclOf, wpOf, vccOf}
 use Rattle.part.specs.State.{withTimers, withWire, withDevice, withLoad}
 use Rattle.sample.specs.Sample.{begun, latchedBy, opensOf, resetOf, startOf, stopOf, byteStep, heardBy, lineOf, signIn, wiredOf, Seen, unseen, sees, seenBy, seenOf, goesOnBy, stepOf}

@@ -5,7 +5,7 @@ use native.Mathlib.Omega.{arith}
 use lib.Dec.{eqb}
 use lib.ListN.{getD}
 use Rattle.ground.specs.Numbers.{writeTime, resetHold, longWatch}
-use Rattle.part.specs.Timers.{off, watchTable, watchCode, loadedOf, writeFell, timedBy, timedOf, suppliedOf}
+use Rattle.timers.specs.Timers.{off, watchTable, watchCode, loadedOf, writeFell, timedBy, timedOf, suppliedOf}
 use Rattle.part.specs.declared.state.Timers.{Timers}
 use Rattle.part.specs.declared.state.Watchdog.{Watchdog}
 use Rattle.part.specs.State.{withWatchdog}

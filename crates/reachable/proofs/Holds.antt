@@ -10,7 +10,7 @@ use lib.Seq.{getD-set-other}
 use borrow.Author.Tests.{ltb-true, ltb-false, eqb-true, eqb-false}
 use Rattle.ground.specs.Numbers.{pageSize}
 use Rattle.ground.specs.Kind.{kindOf}
-use Rattle.part.specs.Page.{pageOf, inPage, emptyLoad, marked}
+use Rattle.page.specs.Page.{pageOf, inPage, emptyLoad, marked}
 use Rattle.ground.specs.declared.kinds.Kind.{Kind}
 use Rattle.part.specs.declared.state.Frame.{Frame}
 use Rattle.part.specs.declared.state.Phase.{Phase}
@@ -19,12 +19,13 @@ use Rattle.part.specs.declared.state.Device.{Device}
 use Rattle.part.specs.declared.state.Load.{Load}
 use Rattle.part.specs.declared.state.Place.{Place}
 use Rattle.part.specs.declared.state.State.{State}
-use Rattle.part.proofs.Places.{page-stays}
+use Rattle.page.proofs.Places.{page-stays}
 use Rattle.wire.specs.Sign.{allButOne, fallSignBy, fallSign, signBy, signOf}
 use Rattle.wire.specs.declared.Sign.{Sign}
 use Rattle.wire.specs.declared.Sign.the-variants.{Quiet, Start, Stop, Bit, Byte, Ninth}
-use Rattle.device.specs.Bytes.{takenOf, dataBy, byteIn, byteOf, keptBy, expectsData, keptOf, bitOf, ninthOf}
-use Rattle.device.proofs.Phases.{bit-stays, ninth-releases}
+use Rattle.device.specs.Bytes.{takenOf, dataBy, byteIn, byteOf, keptBy, expectsData, keptOf}
+use Rattle.bits.specs.Bits.{bitOf, ninthOf}
+use Rattle.bits.proofs.Phases.{bit-stays, ninth-releases}
 use Rattle.levels.specs.Level.{sclOf, sdaOf, wpOf}
 use Rattle.sample.specs.Sample.{opensOf, resetOf, startOf, stopOf, byteStep, heardBy, lineOf, signIn, wiredOf, Seen, unseen, sees, seenOf, goesOnBy, stepOf}
 use Rattle.sample.specs.Run.{Part, partStep}

@@ -10,7 +10,7 @@ use borrow.Author.Tests.{lt-ltb, ltb-true}
 use Rattle.ground.specs.Numbers.{mostSelect, mostBits}
 use Rattle.ground.specs.Cases.{highest}
 use Rattle.ground.specs.Kind.{kindOf, known}
-use Rattle.part.specs.Page.{at, marked}
+use Rattle.page.specs.Page.{at, marked}
 use Rattle.part.specs.declared.state.Phase.the-variants.{Idle}
 use Rattle.part.specs.declared.state.State.{State}
 use Rattle.ground.proofs.Tests.{and-split}
@@ -18,7 +18,7 @@ use Rattle.ground.proofs.Known.{kind-sound}
 use Rattle.ground.specs.Verdict.{accepted}
 use Rattle.refusals.specs.Refusals.{storable, powerBy, powerOf, inRange}
 use Rattle.sample.specs.Run.{Part, partStep, runOf}
-use Rattle.twin.specs.Power.{poweredUp}
+use Rattle.power.specs.Power.{poweredUp}
 use Rattle.reachable.specs.Reachable.{atPower, Reachable, speaks, sendsNow, Lowers, acknowledges, sendsZero, Keeps}
 use Rattle.reachable.proofs.Kept.Talks.{Voice, rests, answers, sends, fresh}
 use Rattle.ranges.specs.Fit.{Fit}

@@ -14,8 +14,8 @@ use lib.ListN.{length, getD}
 use Rattle.ground.specs.Numbers.{pageSize, mostBits}
 use Rattle.ground.specs.Cases.{highest}
 use Rattle.ground.specs.Kind.{kindOf}
-use Rattle.part.specs.Lock.{lockedOf}
-use Rattle.part.specs.Page.{pageOf, inPage, emptyLoad, marked}
+use Rattle.lock.specs.Lock.{lockedOf}
+use Rattle.page.specs.Page.{pageOf, inPage, emptyLoad, marked}
 use Rattle.ground.specs.declared.kinds.Kind.{Kind}
 use Rattle.part.specs.declared.state.Phase.{Phase}
 use Rattle.part.specs.declared.state.Phase.the-variants.{Idle, Silent, Slave, High, Low, Data, Register, Send, SendRegister}
@@ -27,7 +27,7 @@ use Rattle.ground.specs.Verdict.{accepted}
 use Rattle.refusals.specs.Refusals.{powerOf, inRange}
 use Rattle.sample.specs.Sample.{opensOf, signIn}
 use Rattle.sample.specs.Run.{Part, partStep, runOf}
-use Rattle.twin.specs.Power.{poweredUp}
+use Rattle.power.specs.Power.{poweredUp}
 
 -- A part at power-up, with its array (State and time, power-up).
 abbrev pub atPower : ℕ → ℕ → ℕ → List ℕ → Part

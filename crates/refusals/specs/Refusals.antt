@@ -1,10 +1,10 @@
 -- What is refused, with its number and place (document 01, Refusal numbers; State and time, ranges and power-up).
-use Prim.Native.Nat.{ℕ, _+_}
+use Prim.Native.Nat.{ℕ}
 use mathlib.Core.Bool.{Bool, true, false, _&&_}
-use mathlib.Core.List.{List, [], _∷_}
+use mathlib.Core.List.{List}
 use lib.ListN.{length}
 use lib.Dec.{eqb, leb, ltb}
-use Rattle.ground.specs.Numbers.{writeTime, resetHold, longWatch, mostSelect, mostBits, mostElapsed, mostLevel, mostSamples}
+use Rattle.ground.specs.Numbers.{writeTime, resetHold, longWatch, mostSelect, mostBits, mostSamples}
 use Rattle.ground.specs.Cases.{middle}
 use Rattle.ground.specs.Kind.{kindOf, known}
 use Rattle.part.specs.declared.state.State.{State}
@@ -28,18 +28,6 @@ inRange s =
     && (known (s .chip .part)
     && (leb (s .chip .select) mostSelect
     && storable (s .device .control .stored)))))
-
--- Refusals 9 and 10 at one sample, in this order; otherwise what the later samples say (Refusal numbers).
-abbrev pub sampleBy : Bool → Bool → ℕ → Verdict → Verdict
-sampleBy false l place rest = refused 9 place
-sampleBy true false place rest = refused 10 place
-sampleBy true true place rest = rest
-
--- The earliest faulty sample, places counted from the given one; else the given verdict (Refusal numbers, 9, 10).
-abbrev pub samplesOf : ℕ → List ℕ → List ℕ → Verdict → Verdict
-samplesOf place [] ls good = good
-samplesOf place (e ∷ es) [] good = good
-samplesOf place (e ∷ es) (l ∷ ls) good = sampleBy (leb e mostElapsed) (leb l mostLevel) place (samplesOf (place + 1) es ls good)
 
 -- Refusals 4 to 8 in numeric order, then the samples (Refusal numbers).
 abbrev pub judgedBy : Bool → Bool → Bool → Bool → Bool → Verdict → Verdict

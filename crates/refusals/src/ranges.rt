@@ -2,7 +2,6 @@
 use ground::kinds;
 use part::state::State;
 use part::state::Timers;
-use part::timers;
 ghost use mathlib.Core.Path.{_≡_};
 ghost use Rattle.refusals.specs.Refusals.{storable, timersInRange, inRange};
 

@@ -7,12 +7,12 @@ use mathlib.Core.Path.{_≡_}
 use lib.ListN.{length, drop, replicate}
 use Rattle.ground.specs.Numbers.{x4323, x4325, writeTime, registerAddress}
 use Rattle.ground.specs.Kind.{kindOf}
-use Rattle.part.specs.Lock.{blockCode}
-use Rattle.part.specs.Timers.{watchCode}
-use Rattle.part.specs.Page.{at}
+use Rattle.lock.specs.Lock.{blockCode}
+use Rattle.timers.specs.Timers.{watchCode}
+use Rattle.page.specs.Page.{at}
 use Rattle.part.specs.declared.state.Control.{Control}
 use Rattle.control.specs.Register.{readsOf}
-use Rattle.twin.specs.Power.{poweredUp}
+use Rattle.power.specs.Power.{poweredUp}
 use Rattle.sample.specs.Run.{Part}
 use Rattle.waves.specs.Waves.{Capture, joined, brisk, wait, awake, start, sent, pageWrite, registerWrite, readFrom}
 use Rattle.runs.specs.Runs.{partAfter, answersTo, Taken}

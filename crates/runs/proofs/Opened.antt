@@ -2,18 +2,20 @@
 -- capture can be computed.
 use Prim.Native.Nat.{ℕ}
 use Rattle.ground.specs.Kind.{kindOf}
-use Rattle.part.specs.Timers.{loadedOf, timedOf, suppliedOf}
-use Rattle.part.specs.Lock.{extentOf, lockedOf}
-use Rattle.part.specs.Page.{storeOf}
+use Rattle.timers.specs.Timers.{loadedOf, timedOf, suppliedOf}
+use Rattle.lock.specs.Lock.{extentOf, lockedOf}
+use Rattle.page.specs.Page.{storeOf}
 use Rattle.wire.specs.Sign.{fallSign, fallFrame, signOf, wireOf}
 use Rattle.refusals.specs.Refusals.{inRange, judgedOf}
 use Rattle.control.specs.Register.{orderOf, carriedOut}
-use Rattle.device.specs.Bytes.{slaveOf, highOf, lowOf, takenOf, byteOf, keptOf, bitOf, ninthOf}
-use Rattle.device.specs.Ends.{startedOf, stoppedOf, endedOf}
+use Rattle.address.specs.Address.{slaveOf, highOf, lowOf}
+use Rattle.device.specs.Bytes.{takenOf, byteOf, keptOf}
+use Rattle.bits.specs.Bits.{bitOf, ninthOf}
+use Rattle.ends.specs.Ends.{startedOf, stoppedOf, endedOf}
 use Rattle.levels.specs.Level.{answerOf}
 use Rattle.sample.specs.Sample.{opensOf, resetOf, startOf, stopOf, byteStep, signIn, seenOf, wiredOf, stepOf, arrayOf}
 use Rattle.sample.specs.Run.{partStep}
-use Rattle.twin.specs.Power.{poweredUp}
+use Rattle.power.specs.Power.{poweredUp}
 
 unfoldable pub opened : ℕ
 unfolding inRange judgedOf kindOf extentOf lockedOf storeOf loadedOf timedOf suppliedOf fallSign fallFrame signOf wireOf orderOf carriedOut slaveOf highOf lowOf takenOf byteOf keptOf bitOf ninthOf startedOf stoppedOf endedOf answerOf opensOf resetOf startOf stopOf byteStep signIn seenOf wiredOf stepOf arrayOf partStep poweredUp

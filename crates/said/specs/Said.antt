@@ -1,7 +1,7 @@
 -- What one sample says, entry by entry (document 01, State and time; Bytes on the wire).
 use Prim.Native.Nat.{ℕ}
 use mathlib.Core.List.{List, _++_}
-use Rattle.part.specs.Timers.{writes, writeFell}
+use Rattle.timers.specs.Timers.{writes, writeFell}
 use Rattle.part.specs.declared.state.State.{State}
 use Rattle.entries.specs.Entries.{saidBy, edgeBy, toldOf}
 use Rattle.entries.specs.declared.Told.{Told}

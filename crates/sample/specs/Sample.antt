@@ -5,8 +5,8 @@ use mathlib.Core.List.{List}
 use Rattle.ground.specs.Numbers.{writeTime}
 use Rattle.ground.specs.Kind.{kindOf}
 use Rattle.part.specs.State.{withTimers, withWire, withDevice, withLoad, withWrite, withWatchdog, withControl, withWel, withRwel}
-use Rattle.part.specs.Timers.{loadedOf, writes, timedOf, suppliedOf}
-use Rattle.part.specs.Page.{emptyLoad, marked, storeOf}
+use Rattle.timers.specs.Timers.{loadedOf, writes, timedOf, suppliedOf}
+use Rattle.page.specs.Page.{emptyLoad, marked, storeOf}
 use Rattle.part.specs.declared.state.Timers.{Timers}
 use Rattle.part.specs.declared.state.Wire.{Wire}
 use Rattle.part.specs.declared.state.Control.{Control}
@@ -18,8 +18,9 @@ use Rattle.wire.specs.declared.Sign.{Sign}
 use Rattle.wire.specs.declared.Sign.the-variants.{Quiet, Start, Stop, Bit, Byte, Ninth}
 use Rattle.control.specs.Register.{orderOf, takesTime}
 use Rattle.control.specs.declared.Order.{Order}
-use Rattle.device.specs.Bytes.{byteOf, keptOf, bitOf, ninthOf}
-use Rattle.device.specs.Ends.{startedOf, stoppedOf, endedOf}
+use Rattle.device.specs.Bytes.{byteOf, keptOf}
+use Rattle.bits.specs.Bits.{bitOf, ninthOf}
+use Rattle.ends.specs.Ends.{startedOf, stoppedOf, endedOf}
 use Rattle.levels.specs.Level.{sclOf, sdaOf, wpOf, vccOf}
 
 -- The timers with a write cycle begun, or as they were (Bytes on the wire, stop; Control register, RWEL high).

@@ -1,10 +1,6 @@
 // One sample, in the order of its four rules.
-use device::bits;
-use device::bytes;
-use device::ends;
 use ground::kinds;
 use levels::answers;
-use part::page;
 use part::state::Control;
 use part::state::Lines;
 use part::state::Load;
@@ -12,7 +8,6 @@ use part::state::Place;
 use part::state::State;
 use part::state::Timers;
 use part::state::Wire;
-use part::timers;
 use wire::Sign;
 ghost use mathlib.Core.Path.{_≡_};
 ghost use Rattle.sample.specs.Sample.{begun, latchedBy, opensOf, resetOf, startOf, byteStep};
@@ -133,15 +128,15 @@ fn byte(s: State, v: u8) -> State
     let kind = kinds::kind_of(chip.part);
     let before = s.device;
     let mut next = s;
-    if bytes::expects_data(before) {
-        let takes = bytes::taken(kind, before);
-        let device = bytes::data(takes, before);
-        let load = bytes::kept(takes, before, v, s.load);
+    if device::expects_data(before) {
+        let takes = device::taken(kind, before);
+        let device = device::data(takes, before);
+        let load = device::kept(takes, before, v, s.load);
         next.device = device;
         next.load = load;
         return next;
     }
-    let device = bytes::byte(kind, chip.select, before, v);
+    let device = device::byte(kind, chip.select, before, v);
     next.device = device;
     next
 }

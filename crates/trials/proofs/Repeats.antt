@@ -4,7 +4,7 @@ use mathlib.Core.List.{List}
 use mathlib.Core.Path.{_≡_, ap, sym, _∙_}
 use native.Mathlib.Omega.{arith}
 use Rattle.part.specs.declared.state.State.{State}
-use Rattle.twin.specs.declared.replays.Replayed.{Replayed}
+use Rattle.power.specs.declared.Replayed.{Replayed}
 use Rattle.twin.specs.Promises.{Replays}
 use Rattle.trials.specs.Rounds.{Round, roundOf, onceOf, againOf}
 

@@ -1,22 +1,22 @@
--- Laws of a case and of the bytes of its reply. Assumes nothing.
+-- Laws of a case. Assumes nothing.
 use Prim.Native.Nat.{ℕ, min}
 use mathlib.Core.Bool.{true, false}
 use mathlib.Core.List.{List}
 use mathlib.Core.Path.{_≡_, ap, sym, subst, _∙_}
 use lib.ListN.{length, replicate}
 use Rattle.part.specs.declared.state.State.{State}
-use Rattle.twin.specs.declared.replays.Replayed.{Replayed}
+use Rattle.power.specs.declared.Replayed.{Replayed}
 use Rattle.ground.specs.declared.Reply.the-variants.{Accepted, Refused}
 use Rattle.ground.specs.Verdict.{Verdict, accepted, refused, meant}
-use Rattle.twin.specs.Promises.{PowersUp}
-use Rattle.twin.specs.Power.{powerState, poweredUp}
+use Rattle.power.specs.Promises.{PowersUp}
+use Rattle.power.specs.Power.{powerState, poweredUp}
 use Rattle.form.specs.declared.headers.Header.{Header}
 use Rattle.trials.specs.declared.tries.Tried.{Tried}
-use Rattle.form.specs.Words.{bytesOf, encodedOf}
+use Rattle.form.specs.Words.{bytesOf}
 use Rattle.form.specs.Fields.{putInOf}
 use Rattle.trials.specs.Rounds.{Round, roundOf, timesOf}
 use Rattle.trials.specs.Trial.{blank, upOf, firstOf, triedOf, Tries}
-use Rattle.trials.specs.Reply.{openingOf, closingOf, Closes}
+use Rattle.replies.specs.Reply.{openingOf, Closes}
 use Rattle.trials.specs.Case.{Answers}
 
 -- The power-up of a header's words, as the code narrowed them.
@@ -49,16 +49,6 @@ module _ (h : Header) (part select stored : ℕ) (up : Replayed)
       let v : upOf h ≡ refused k q = up-verdict (refused k q) (rw told) in
       let at : up .state ≡ poweredUp 4323 0 0 = up-state (refused k q) (rw told) in
       record { ran = rw v; last = rw (v, told, at) }
-
--- Words laid over a buffer that they fill are their bytes.
-pub opening-bytes : (v : Verdict) (out : List ℕ) → out ≡ replicate 8 0 → encodedOf (openingOf v) out ≡ bytesOf (openingOf v)
-unfolding openingOf
-opening-bytes (accepted n) out e = rw e
-opening-bytes (refused k p) out e = rw e
-
-pub closing-bytes : (register : ℕ) (s : State) (out : List ℕ) → out ≡ replicate 32 0 → encodedOf (closingOf register s) out ≡ bytesOf (closingOf register s)
-unfolding closingOf
-closing-bytes register s out e = rw e
 
 -- What a case leaves, with the bytes that open and close its reply, is the answer to it.
 pub answers-case : (h : Header) (es ls array row array′ row′ opening closing : List ℕ) (tried : Tried)

@@ -6,7 +6,7 @@ use Rattle.form.specs.declared.headers.Header.{Header}
 use Rattle.trials.specs.declared.cases.Said.{Said}
 use Rattle.form.specs.Words.{bytesOf}
 use Rattle.trials.specs.Trial.{upOf, ranBy, triedOf}
-use Rattle.trials.specs.Reply.{openingOf, Closes}
+use Rattle.replies.specs.Reply.{openingOf, Closes}
 
 -- A reply: opening bytes of the last verdict; after an accepted power-up row, array and closing bytes of the last replay.
 pub record Answers (h : Header) (es ls array row : List ℕ) (r : Said) (array′ row′ : List ℕ) : Type 0 where

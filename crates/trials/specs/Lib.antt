@@ -1,4 +1,3 @@
 pub mod Rounds
 pub mod Trial
-pub mod Reply
 pub mod Case

@@ -2,7 +2,7 @@
 use Prim.Native.Nat.{ℕ, zero, suc, _-_}
 use mathlib.Core.List.{List}
 use Rattle.part.specs.declared.state.State.{State}
-use Rattle.twin.specs.declared.replays.Replayed.{Replayed}
+use Rattle.power.specs.declared.Replayed.{Replayed}
 use Rattle.sample.specs.Run.{Part}
 use Rattle.ground.specs.Verdict.{Verdict, meant}
 use Rattle.refusals.specs.Refusals.{judgedOf}

@@ -7,7 +7,7 @@ use lib.ListN.{length, replicate}
 use Rattle.part.specs.declared.state.State.{State}
 use Rattle.ground.specs.Verdict.{Verdict, accepted, refused}
 use Rattle.refusals.specs.Refusals.{powerOf}
-use Rattle.twin.specs.Power.{poweredUp}
+use Rattle.power.specs.Power.{poweredUp}
 use Rattle.form.specs.declared.headers.Header.{Header}
 use Rattle.trials.specs.declared.tries.Tried.{Tried}
 use Rattle.form.specs.Fields.{putInOf}

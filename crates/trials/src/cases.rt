@@ -1,5 +1,4 @@
 // A case from its header and rows to all that is written for it.
-use crate::replies;
 use crate::tries;
 use form::headers::Header;
 ghost use Rattle.trials.specs.Case.{Answers};

@@ -4,17 +4,10 @@ use Prim.Native.Nat.{ℕ}
 use mathlib.Core.List.{List}
 use mathlib.Core.Path.{_≡_}
 use Rattle.part.specs.declared.state.State.{State}
-use Rattle.control.specs.Register.{readsOf}
-use Rattle.twin.specs.declared.replays.Replayed.{Replayed}
+use Rattle.power.specs.declared.Replayed.{Replayed}
 use Rattle.sample.specs.Run.{Part, runOf, answersOf}
 use Rattle.ground.specs.Verdict.{Verdict, accepted, refused, meant}
-use Rattle.refusals.specs.Refusals.{judgedOf, powerOf}
-use Rattle.twin.specs.Power.{powerState}
-
--- Power-up: its verdict, and the state beside it (Refusal numbers, 1 to 3; State and time, power-up).
-pub record PowersUp (part select stored : ℕ) (r : Replayed) : Type 0 where
-  pub reply : meant (r .reply) ≡ powerOf part select stored
-  pub state : r .state ≡ powerState (powerOf part select stored) part select stored
+use Rattle.refusals.specs.Refusals.{judgedOf}
 
 -- The part after a replay: refused, as it was (What goes in and what comes out; Refusal numbers, last lines).
 abbrev pub partAfter : Verdict → List ℕ → List ℕ → Part → Part
@@ -32,10 +25,6 @@ pub record Replays (s : State) (es ls array row : List ℕ) (r : Replayed) (arra
   pub state : r .state ≡ partAfter (judgedOf s es ls array row) es ls (record { state = s; array = array }) .state
   pub kept : array′ ≡ partAfter (judgedOf s es ls array row) es ls (record { state = s; array = array }) .array
   pub said : row′ ≡ rowAfter (judgedOf s es ls array row) es ls (record { state = s; array = array }) row
-
--- The control register of a state, as it reads (Control register, bits 7 to 0).
-pub record ReadsRegister (s : State) (r : ℕ) : Type 0 where
-  pub byte : r ≡ readsOf (s .device .control)
 
 -- The samples of an accepted capture: the part after them, and an answer for each (What goes in and what comes out).
 pub record Runs (s : State) (es ls array : List ℕ) (r : State) (array′ row′ : List ℕ) : Type 0 where

@@ -2,17 +2,12 @@
 use ground::Reply;
 use levels::answers;
 use part::state::State;
+use power::Replayed;
 use refusals::verdicts;
 use sample::steps;
 ghost use mathlib.Core.Path.{_≡_};
 ghost use lib.ListN.{length};
 ghost use Rattle.twin.specs.Promises.{Runs, Replays};
-
-// A reply with the state beside it.
-pub struct Replayed {
-    pub reply: Reply,
-    pub state: State,
-}
 
 // Sample by sample, over rows of one length.
 fn run(s: State, elapsed: &[u32], levels: &[u8], array: &mut [u8], row: &mut [u8]) -> State

@@ -8,11 +8,11 @@ use native.Mathlib.Omega.{arith}
 use lib.Dec.{eqb, ltb}
 use lib.ListN.{length, getD, List·getD-eq-default}
 use borrow.Author.Tests.{ltb-true, ltb-false, not-true}
-use Rattle.part.specs.Page.{pageOf, inPage, at, storeOf, marked}
+use Rattle.page.specs.Page.{pageOf, inPage, at, storeOf, marked}
 use Rattle.part.specs.declared.state.Place.{Place}
 use Rattle.part.specs.declared.state.State.{State}
 use Rattle.ground.proofs.Tests.{and-split}
-use Rattle.part.proofs.Store.{store-length, store-at}
+use Rattle.page.proofs.Store.{store-length, store-at}
 use Rattle.wire.specs.declared.Sign.{Sign}
 use Rattle.wire.specs.declared.Sign.the-variants.{Quiet, Start, Stop, Bit, Byte, Ninth}
 use Rattle.sample.specs.Sample.{opensOf, savedBy, writtenBy, wiredOf, Seen, unseen, sees, seenOf, keepsBy, arrayOf}

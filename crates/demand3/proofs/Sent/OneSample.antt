@@ -10,7 +10,7 @@ use lib.Dec.{eqb, ltb}
 use borrow.Author.Tests.{ltb-true, ltb-false, eqb-true, eqb-false}
 use Rattle.ground.specs.Numbers.{mostBits}
 use Rattle.ground.specs.Kind.{kindOf}
-use Rattle.part.specs.Page.{byteAt}
+use Rattle.page.specs.Page.{byteAt}
 use Rattle.ground.specs.declared.kinds.Kind.{Kind}
 use Rattle.part.specs.declared.state.Control.{Control}
 use Rattle.part.specs.declared.state.Frame.{Frame}
@@ -22,9 +22,10 @@ use Rattle.wire.specs.Sign.{allButOne, fallSignBy, fallSign, fallFrameBy, fallF
 use Rattle.wire.specs.declared.Sign.{Sign}
 use Rattle.wire.specs.declared.Sign.the-variants.{Quiet, Start, Stop, Bit, Byte, Ninth}
 use Rattle.part.specs.State.{withControl, withDevice, withTalk}
-use Rattle.device.specs.Talk.{sending}
-use Rattle.device.specs.Bytes.{byteOf, keptOf, bitOf, fetch, ninthIn, ninthOf}
-use Rattle.device.specs.Ends.{startedOf, stoppedOf, endedOf}
+use Rattle.address.specs.Talk.{sending}
+use Rattle.device.specs.Bytes.{byteOf, keptOf}
+use Rattle.bits.specs.Bits.{bitOf, fetch, ninthIn, ninthOf}
+use Rattle.ends.specs.Ends.{startedOf, stoppedOf, endedOf}
 use Rattle.levels.specs.Level.{sclOf, wpOf}
 use Rattle.sample.specs.Sample.{opensOf, resetOf, startOf, stopOf, byteStep, heardBy, lineOf, signIn, wiredOf, sees, seenBy, seenOf, goesOnBy, stepOf}
 use Rattle.sample.specs.Run.{Part}

@@ -10,7 +10,7 @@ use lib.Dec.{eqb}
 use borrow.Author.Tests.{eq-eqb, ne-eqb, not-true, not-false}
 use Rattle.ground.specs.Cases.{orZero}
 use Rattle.ground.specs.Kind.{kindOf}
-use Rattle.part.specs.Timers.{writes}
+use Rattle.timers.specs.Timers.{writes}
 use Rattle.part.specs.declared.state.State.{State}
 use Rattle.levels.specs.Level.{pinBy, answerOf}
 use Rattle.sample.specs.Sample.{stepOf}

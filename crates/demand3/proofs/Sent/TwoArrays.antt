@@ -11,7 +11,7 @@ use lib.Seq.{ext-getD}
 use borrow.Author.Tests.{ltb-true, ltb-false, eqb-true, eqb-false}
 use Rattle.ground.specs.Numbers.{pageSize}
 use Rattle.ground.specs.Kind.{kindOf}
-use Rattle.part.specs.Page.{pageOf, inPage, at, storeOf, marked, filledOf, anyMarked}
+use Rattle.page.specs.Page.{pageOf, inPage, at, storeOf, marked, filledOf, anyMarked}
 use Rattle.part.specs.declared.state.Device.{Device}
 use Rattle.part.specs.declared.state.Load.{Load}
 use Rattle.part.specs.declared.state.Phase.{Phase}
@@ -20,7 +20,7 @@ use Rattle.part.specs.declared.state.Place.{Place}
 use Rattle.part.specs.declared.state.State.{State}
 use Rattle.ground.specs.declared.kinds.Kind.{Kind}
 use Rattle.ground.proofs.Tests.{and-split}
-use Rattle.part.proofs.Store.{store-length, store-at}
+use Rattle.page.proofs.Store.{store-length, store-at}
 use Rattle.wire.specs.declared.Sign.{Sign}
 use Rattle.wire.specs.declared.Sign.the-variants.{Quiet, Start, Stop, Bit, Byte, Ninth}
 use Rattle.device.specs.Bytes.{takenOf, keptBy, expectsData, keptOf}

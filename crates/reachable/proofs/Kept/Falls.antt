@@ -9,8 +9,8 @@ use lib.Dec.{eqb}
 use borrow.Author.Tests.{not-true}
 use Rattle.ground.specs.Numbers.{mostBits, registerAddress, byteValues}
 use Rattle.ground.specs.Cases.{odd}
-use Rattle.part.specs.Lock.{lockedOf}
-use Rattle.part.specs.Page.{placeOf, nextInPage, nextInArray, byteAt}
+use Rattle.lock.specs.Lock.{lockedOf}
+use Rattle.page.specs.Page.{placeOf, nextInPage, nextInArray, byteAt}
 use Rattle.ground.specs.declared.kinds.Kind.{Kind}
 use Rattle.part.specs.declared.state.BusAddress.{BusAddress}
 use Rattle.part.specs.declared.state.Phase.{Phase}
@@ -20,11 +20,14 @@ use Rattle.part.specs.declared.state.Device.{Device}
 use Rattle.part.specs.declared.state.Load.{Load}
 use Rattle.part.specs.declared.state.Place.{Place}
 use Rattle.ground.proofs.Tests.{and-split}
-use Rattle.part.proofs.Places.{page-stays, lock-of-page}
+use Rattle.page.proofs.Places.{page-stays}
+use Rattle.lock.proofs.Laws.{lock-of-page}
 use Rattle.control.specs.Register.{readsOf}
 use Rattle.part.specs.State.{withChosen, withTalk}
-use Rattle.device.specs.Talk.{acknowledged, rested, sending, released, addressOf, matches}
-use Rattle.device.specs.Bytes.{slaveBy, slaveOf, highOf, addressBy, lowOf, takenOf, dataBy, registerBy, byteIn, byteOf, keptBy, expectsData, keptOf, bitIn, bitOf, answeredBy, ninthIn, ninthOf}
+use Rattle.address.specs.Talk.{acknowledged, rested, sending, released, addressOf, matches}
+use Rattle.address.specs.Address.{slaveBy, slaveOf, highOf, addressBy, lowOf}
+use Rattle.device.specs.Bytes.{takenOf, dataBy, registerBy, byteIn, byteOf, keptBy, expectsData, keptOf}
+use Rattle.bits.specs.Bits.{bitIn, bitOf, answeredBy, ninthIn, ninthOf}
 use Rattle.reachable.specs.Reachable.{waits, speaks}
 use Rattle.reachable.proofs.Kept.Talks.{Voice, rests, answers, sends, Pends, Talks, still, voice-stays, voice-released, whole-filled}
 

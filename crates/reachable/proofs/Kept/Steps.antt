@@ -6,7 +6,7 @@ use mathlib.Core.List.{List}
 use mathlib.Core.Path.{_≡_, refl}
 use native.Mathlib.Omega.{arith}
 use Rattle.ground.specs.Kind.{kindOf}
-use Rattle.part.specs.Timers.{writes, timedOf, suppliedOf}
+use Rattle.timers.specs.Timers.{writes, timedOf, suppliedOf}
 use Rattle.part.specs.declared.state.Phase.the-variants.{Idle}
 use Rattle.part.specs.declared.state.Timers.{Timers}
 use Rattle.part.specs.declared.state.Wire.{Wire}
@@ -18,8 +18,9 @@ use Rattle.wire.specs.declared.Sign.{Sign}
 use Rattle.wire.specs.declared.Sign.the-variants.{Quiet, Start, Stop, Bit, Byte, Ninth}
 use Rattle.part.specs.State.{withControl, withWire, withTimers, withDevice, withLoad}
 use Rattle.control.specs.Register.{orderOf}
-use Rattle.device.specs.Bytes.{byteOf, keptOf, bitOf, ninthOf}
-use Rattle.device.specs.Ends.{startedOf, dropped, stoppedOf, endedOf}
+use Rattle.device.specs.Bytes.{byteOf, keptOf}
+use Rattle.bits.specs.Bits.{bitOf, ninthOf}
+use Rattle.ends.specs.Ends.{startedOf, dropped, stoppedOf, endedOf}
 use Rattle.levels.specs.Level.{sclOf, sdaOf, wpOf, vccOf}
 use Rattle.sample.specs.Sample.{latchedBy, opensOf, resetOf, startOf, stopOf, byteStep, heardBy, lineOf, signIn, wiredOf, seenBy, seenOf, goesOnBy, stepOf}
 use Rattle.ranges.proofs.Signs.{Saw, saw}

@@ -8,7 +8,7 @@ use native.Mathlib.Omega.{arith}
 use lib.ListN.{length, set, length-set}
 use Rattle.ground.specs.Numbers.{mostBits}
 use Rattle.ground.specs.Cases.{highest}
-use Rattle.part.specs.Page.{inPage, emptyLoad, marked, filledOf, anyMarked}
+use Rattle.page.specs.Page.{inPage, emptyLoad, marked, filledOf, anyMarked}
 use Rattle.ground.specs.declared.kinds.Kind.{Kind}
 use Rattle.part.specs.declared.state.Phase.{Phase}
 use Rattle.part.specs.declared.state.Phase.the-variants.{Idle, Silent, Slave, Register}
@@ -19,8 +19,8 @@ use Rattle.part.specs.declared.state.Load.{Load}
 use Rattle.part.specs.declared.state.Place.{Place}
 use Rattle.control.specs.Register.{carriedOut}
 use Rattle.control.specs.declared.Order.{Order}
-use Rattle.device.specs.Talk.{nonePends, rested, released}
-use Rattle.device.specs.Ends.{startedOf, dropped, stoppedOf}
+use Rattle.address.specs.Talk.{nonePends, rested, released}
+use Rattle.ends.specs.Ends.{startedOf, dropped, stoppedOf}
 use Rattle.reachable.specs.Reachable.{waits, speaks, Loading, KeptLoad}
 
 -- What the part does on SDA with so many bits committed: it rests, acknowledges, or sends a byte.

@@ -11,7 +11,7 @@ use lib.ListN.{length, getD}
 use Rattle.part.specs.declared.state.Device.{Device}
 use Rattle.part.specs.declared.state.Load.{Load}
 use Rattle.part.specs.declared.state.State.{State}
-use Rattle.device.specs.Talk.{sendsIn}
+use Rattle.address.specs.Talk.{sendsIn}
 use Rattle.clocks.specs.Clocks.{turnOf}
 use Rattle.clocks.specs.Stands.{Stands}
 use Rattle.clocks.specs.declared.turns.Clocks.{Clocks}

@@ -6,7 +6,7 @@ use mathlib.Core.Path.{_≡_, refl, sym, _∙_}
 use native.Mathlib.Nat.{le-of-lt}
 use borrow.Author.Needs.{needs}
 use lib.ListN.{length}
-use Rattle.part.specs.Page.{emptyLoad}
+use Rattle.page.specs.Page.{emptyLoad}
 use Rattle.device.specs.Bytes.{keptOf}
 use Rattle.plain.specs.Awake.{Goes-on}
 use Rattle.clocks.proofs.Counting.{next-less, goes-less, as-long}

@@ -1,0 +1,2 @@
+pub mod Talk
+pub mod Address

@@ -1,0 +1,36 @@
+-- Block lock (document 01, Control register).
+use Prim.Native.Nat.{ℕ, _+_, _*_, _/_, _%_}
+use mathlib.Core.Bool.{Bool, _&&_}
+use mathlib.Core.List.{List, _∷_}
+use lib.ListN.{getD}
+use lib.Dec.{leb, ltb}
+use Rattle.ground.specs.Numbers.{pageSize}
+use Rattle.page.specs.Page.{pageOf}
+use Rattle.ground.specs.declared.kinds.Kind.{Kind}
+use Rattle.lock.specs.declared.Extent.{Extent}
+use Rattle.part.specs.declared.state.Place.{Place}
+
+-- BP2 BP1 BP0 of a control byte: bit 0, then bits 4 and 3 (Control register).
+abbrev pub blockCode : ℕ → ℕ
+blockCode v = v % 2 * 4 + v / 8 % 4
+
+-- The first n pages (Control register).
+abbrev pub firstPages : ℕ → Extent
+firstPages n = record { from = 0; to = n }
+
+-- What the codes 0 to 7 lock: 0 to 2 nothing, 3 everything, 4 to 7 the first 1, 2, 4, 8 pages (Control register).
+abbrev pub extentTable : Kind → List Extent
+extentTable k =
+    firstPages 0 ∷ firstPages 0 ∷ firstPages 0 ∷ firstPages (k .size / pageSize) ∷ firstPages 1 ∷ firstPages 2 ∷ firstPages 4 ∷ firstPages 8 ∷ []
+
+-- The pages that a block code locks (Control register).
+unfoldable pub extentOf : Kind → ℕ → Extent
+extentOf k code = getD (extentTable k) code (firstPages 0)
+
+-- Whether a page lies within an extent (Control register).
+abbrev pub within : Extent → ℕ → Bool
+within x page = leb (x .from) page && ltb page (x .to)
+
+-- Whether a place lies in a block that the control byte locks (Control register; Bytes on the wire, array data).
+unfoldable pub lockedOf : Kind → ℕ → Place → Bool
+lockedOf k stored p = within (extentOf k (blockCode stored)) (pageOf p)

@@ -1,0 +1,46 @@
+// Block lock: which pages a control byte locks.
+use part::state::PAGE;
+use part::state::Place;
+use ground::kinds::Kind;
+ghost use mathlib.Core.Path.{_≡_};
+ghost use Rattle.lock.specs.Lock.{blockCode, extentOf, lockedOf};
+
+// Pages from `from` up to but not including `to`.
+pub struct Extent {
+    pub from: u16,
+    pub to: u16,
+}
+
+// BP2 BP1 BP0 of a control byte.
+pub fn block_code(stored: u8) -> u8
+    ensures { λ r. ⌜ r ≡ blockCode stored ⌝ }
+{
+    stored % 2 * 4 + stored / 8 % 4
+}
+
+// The pages that a block code locks.
+pub fn extent_of(kind: Kind, code: u8) -> Extent
+    ensures { λ r. ⌜ r ≡ extentOf kind code ⌝ }
+{
+    match code {
+        0..=2 => Extent { from: 0, to: 0 },
+        3 => Extent {
+            from: 0,
+            to: kind.size / PAGE,
+        },
+        4 => Extent { from: 0, to: 1 },
+        5 => Extent { from: 0, to: 2 },
+        6 => Extent { from: 0, to: 4 },
+        7 => Extent { from: 0, to: 8 },
+        8..=255 => Extent { from: 0, to: 0 },
+    }
+}
+
+// Whether a place lies in a locked page.
+pub fn locked(kind: Kind, stored: u8, place: Place) -> bool
+    ensures { λ r. ⌜ r ≡ lockedOf kind stored place ⌝ }
+{
+    let e = extent_of(kind, block_code(stored));
+    let page = place.0 / PAGE;
+    (e.from <= page) & (page < e.to)
+}
