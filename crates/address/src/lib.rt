@@ -7,7 +7,7 @@ use part::state::Phase;
 use part::state::Talk;
 ghost use mathlib.Core.Path.{_≡_};
 ghost use Rattle.part.specs.State.{withChosen};
-ghost use Rattle.address.specs.Talk.{acknowledged, rested, matches, addressOf};
+ghost use Rattle.address.specs.Talk.{pends, nonePends, acknowledged, rested, matches, addressOf};
 ghost use Rattle.address.specs.Address.{slaveOf, highOf, lowOf};
 
 pub const REGISTER_ADDRESS: u16 = 0xffff;

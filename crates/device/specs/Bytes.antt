@@ -10,6 +10,7 @@ use Rattle.part.specs.declared.state.Phase.the-variants.{Idle, Silent, Slave, H
 use Rattle.part.specs.declared.state.Device.{Device}
 use Rattle.part.specs.declared.state.Load.{Load}
 use Rattle.part.specs.State.{withTalk, withCounter, withControl, withChosen}
+use Rattle.address.specs.Address.{slaveOf, highOf, lowOf}
 use Rattle.address.specs.Talk.{pends, nonePends, acknowledged, rested}
 
 -- Whether an array byte is taken: WEL set and the counter in no locked block (Bytes on the wire, array data).

@@ -1,7 +1,7 @@
 -- The samples of a capture that are refused, with their place (document 01, Refusal numbers, 9 and 10).
 use Prim.Native.Nat.{ℕ, _+_}
 use mathlib.Core.Bool.{Bool, true, false}
-use mathlib.Core.List.{List, _∷_}
+use mathlib.Core.List.{List, [], _∷_}
 use lib.Dec.{leb}
 use Rattle.ground.specs.Numbers.{mostElapsed, mostLevel}
 use Rattle.ground.specs.Verdict.{Verdict, refused}

@@ -1,12 +1,10 @@
 -- Laws of the locked extents. Assumes nothing.
-use Prim.Native.Nat.{ℕ, zero, suc, _<_}
 use Prim.Native.Nat.{ℕ, zero, suc, _<_, _≤_}
 use Rattle.ground.specs.declared.kinds.Kind.{Kind}
 use Rattle.lock.specs.Lock.{extentOf, blockCode, within, lockedOf, extentTable, firstPages}
 use Rattle.page.specs.Page.{pageOf}
 use Rattle.part.specs.declared.state.Place.{Place}
 use lib.ListN.{List·getD-eq-default}
-use mathlib.Core.Path.{_≡_, refl, ap}
 use mathlib.Core.Path.{_≡_, refl, ap}
 use native.Mathlib.Omega.{arith}
 

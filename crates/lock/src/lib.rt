@@ -1,7 +1,7 @@
 // Block lock: which pages a control byte locks.
+use ground::kinds::Kind;
 use part::state::PAGE;
 use part::state::Place;
-use ground::kinds::Kind;
 ghost use mathlib.Core.Path.{_≡_};
 ghost use Rattle.lock.specs.Lock.{blockCode, extentOf, lockedOf};
 

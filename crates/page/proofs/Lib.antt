@@ -1,3 +1,3 @@
 pub mod Laws
 pub mod Places
-pub mod Store
+pub mod Stored

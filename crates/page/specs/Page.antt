@@ -1,7 +1,7 @@
 -- Places, the page load and the store (document 01, State and time; Bytes on the wire).
 use Prim.Native.Nat.{ℕ, _+_, _*_, _/_, _%_}
 use mathlib.Core.Bool.{Bool, true, false, cond}
-use mathlib.Core.List.{List, _∷_, _++_}
+use mathlib.Core.List.{List, [], _∷_, _++_}
 use lib.ListN.{take, drop, getD, set, replicate}
 use lib.Dec.{ltb}
 use Rattle.ground.specs.Numbers.{pageSize}

@@ -1,9 +1,9 @@
 // The page load, the places it fills, and its way into the array.
+use ground::kinds::Kind;
 use part::state::BusAddress;
 use part::state::Load;
 use part::state::PAGE;
 use part::state::Place;
-use ground::kinds::Kind;
 ghost use mathlib.Core.Path.{_≡_};
 ghost use mathlib.Core.Bool.{cond};
 ghost use lib.ListN.{getD, set};

@@ -8,6 +8,7 @@ use Rattle.ground.specs.Numbers.{writeTime, resetHold, longWatch, mostSelect, m
 use Rattle.ground.specs.Cases.{middle}
 use Rattle.ground.specs.Kind.{kindOf, known}
 use Rattle.part.specs.declared.state.State.{State}
+use Rattle.limits.specs.Samples.{samplesOf}
 use Rattle.part.specs.declared.state.Timers.{Timers}
 use Rattle.ground.specs.Verdict.{Verdict, accepted, refused, noPart}
 

@@ -1,6 +1,6 @@
 -- The words of a reply (docs/BENCH.md).
 use Prim.Native.Nat.{ℕ, min}
-use mathlib.Core.List.{List, _∷_}
+use mathlib.Core.List.{List, [], _∷_}
 use mathlib.Core.Path.{_≡_}
 use Rattle.ground.specs.Cases.{orZero}
 use Rattle.part.specs.declared.state.State.{State}

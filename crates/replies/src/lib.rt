@@ -1,7 +1,7 @@
 // The words of a reply, as bytes.
 use form::words;
-use part::state::State;
 use ground::Reply;
+use part::state::State;
 ghost use mathlib.Core.Path.{_≡_};
 ghost use Prim.Native.Nat.{min};
 ghost use Rattle.ground.specs.Cases.{orZero};

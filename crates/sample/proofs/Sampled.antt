@@ -8,7 +8,7 @@ use Rattle.page.specs.Page.{marked}
 use Rattle.part.specs.declared.state.Load.{Load}
 use Rattle.part.specs.declared.state.Place.{Place}
 use Rattle.part.specs.declared.state.State.{State}
-use Rattle.page.proofs.Store.{store-length}
+use Rattle.page.proofs.Stored.{store-length}
 use Rattle.wire.specs.declared.Sign.{Sign}
 use Rattle.wire.specs.declared.Sign.the-variants.{Quiet, Start, Stop, Bit, Byte, Ninth}
 use Rattle.levels.specs.Level.{wpOf}

@@ -1,7 +1,7 @@
 -- Rules 1 and 2 of a sample (document 01, State and time).
 use Prim.Native.Nat.{ℕ, _-_, _/_, _%_}
 use mathlib.Core.Bool.{Bool, true, false}
-use mathlib.Core.List.{List, _∷_}
+use mathlib.Core.List.{List, [], _∷_}
 use lib.ListN.{getD}
 use lib.Dec.{eqb, ltb}
 use Rattle.ground.specs.Numbers.{resetHold, longWatch, middleWatch, shortWatch}

@@ -12,7 +12,7 @@ use Rattle.page.specs.Page.{pageOf, inPage, at, storeOf, marked}
 use Rattle.part.specs.declared.state.Place.{Place}
 use Rattle.part.specs.declared.state.State.{State}
 use Rattle.ground.proofs.Tests.{and-split}
-use Rattle.page.proofs.Store.{store-length, store-at}
+use Rattle.page.proofs.Stored.{store-length, store-at}
 use Rattle.wire.specs.declared.Sign.{Sign}
 use Rattle.wire.specs.declared.Sign.the-variants.{Quiet, Start, Stop, Bit, Byte, Ninth}
 use Rattle.sample.specs.Sample.{opensOf, savedBy, writtenBy, wiredOf, Seen, unseen, sees, seenOf, keepsBy, arrayOf}

@@ -20,7 +20,7 @@ use Rattle.part.specs.declared.state.Place.{Place}
 use Rattle.part.specs.declared.state.State.{State}
 use Rattle.ground.specs.declared.kinds.Kind.{Kind}
 use Rattle.ground.proofs.Tests.{and-split}
-use Rattle.page.proofs.Store.{store-length, store-at}
+use Rattle.page.proofs.Stored.{store-length, store-at}
 use Rattle.wire.specs.declared.Sign.{Sign}
 use Rattle.wire.specs.declared.Sign.the-variants.{Quiet, Start, Stop, Bit, Byte, Ninth}
 use Rattle.device.specs.Bytes.{takenOf, keptBy, expectsData, keptOf}

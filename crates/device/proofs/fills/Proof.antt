@@ -1,5 +1,5 @@
 -- `device::fills` meets its contract.
-use mathlib.Core.List.{_∷_}
+use mathlib.Core.List.{[], _∷_}
 use borrow.Author.Needs.{needs}
 use types.Run.{miss}
 use Rattle.device.proofs.Phases.{kept-stays, kept-data}
