@@ -1,3 +1,5 @@
+pub mod AtInputs
 pub mod BenchList
 pub mod Demand1
 pub mod OneReply
+pub mod Claims

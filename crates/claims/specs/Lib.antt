@@ -1,3 +1,5 @@
 pub mod BenchCases
 pub mod Demand1
 pub mod OneReply
+pub mod AtInputs
+pub mod Claims

@@ -1,2 +1,4 @@
+pub mod Judged
+pub mod Cut
 pub mod Demand2
 pub mod Replies

@@ -51,6 +51,15 @@ pub record Pieces (es₁ ls₁ es₂ ls₂ : List ℕ) : Type 0 where
       → (judgedOf (p .state) es₁ ls₁ (p .array) row₁ ≡ accepted (length ls₁))
       × (judgedOf (runOf es₁ ls₁ p .state) es₂ ls₂ (runOf es₁ ls₁ p .array) row₂ ≡ accepted (length ls₂))
 
+-- What two pieces of a capture came to, beside what the whole came to: both are accepted with their lengths, and joined they are the whole
+-- (State and time, each sample).
+pub record Joined (k m : ℕ) (r r₁ r₂ : Replayed) (array′ array₂ said said₁ said₂ : List ℕ) : Type 0 where
+  pub first : r₁ .reply ≡ Accepted k
+  pub second : r₂ .reply ≡ Accepted m
+  pub state : r .state ≡ r₂ .state
+  pub kept : array′ ≡ array₂
+  pub answers : said ≡ said₁ ++ said₂
+
 -- The count of an accepted capture is the length of its rows (Leaving no slack, the count's being the row length).
 pub record Counted (es ls row : List ℕ) (n : ℕ) : Type 0 where
   pub elapsed : length es ≡ n

@@ -7,19 +7,20 @@
 use Prim.Native.Nat.{ℕ, zero, suc, _+_, _<_}
 use mathlib.Core.Bool.{Bool, true, false, not}
 use mathlib.Core.List.{List, [], _∷_}
-use mathlib.Core.Path.{_≡_, refl, ap, sym, _∙_}
+use mathlib.Core.Path.{_≡_, refl, ap, sym, subst, _∙_}
 use native.Mathlib.Omega.{arith}
-use lib.ListN.{getD}
-use borrow.Author.Tests.{eqb-true, not-false}
+use lib.ListN.{getD, take}
+use borrow.Author.Tests.{eqb-true, not-true, not-false}
+use Rattle.ground.proofs.Tests.{and-split}
 use Rattle.part.specs.declared.state.State.{State}
 use Rattle.levels.specs.Level.{answerOf}
 use Rattle.sample.specs.Sample.{stepOf, arrayOf}
 use Rattle.sample.specs.Run.{Part, partStep, runOf, answersOf}
 use Rattle.demand3.specs.Sending.{Sent, nothing, sentOf}
-use Rattle.demand3.specs.Differ.{never, sample, reaches, firstReach, firstDiff, fetches, covers, firstCover, EqualBut, FullLoad, sentAfter, SplitAt, Alike, Covered, Demand3}
+use Rattle.demand3.specs.Differ.{never, sample, reaches, firstReach, firstDiff, fetches, covers, firstCover, fetchesNone, EqualBut, FullLoad, sentAfter, SplitAt, Alike, Unfetched, Covered, TwoParts, SameButOut}
 use Rattle.demand3.proofs.Sent.TwoArrays.{arrays-kept, arrays-equal, array-silent, whole-kept}
 use Rattle.demand3.proofs.Sent.OneSample.{partOf, Beside, equal}
-use Rattle.demand3.proofs.Sent.Reached.{beside-answers, beside-line, beside-silenced, beside-equal, beside-step}
+use Rattle.demand3.proofs.Sent.Reached.{same-but-out, beside-answers, beside-line, beside-silenced, beside-equal, beside-step}
 use Rattle.demand3.proofs.Sent.Shown.{shown}
 use Rattle.demand3.proofs.Sent.OneByte.{rows-stay}
 
@@ -116,6 +117,24 @@ states-stay {a} {xs} {ys} e l s but x =
     let start : Beside a s s nothing nothing = equal refl refl refl in
     beside-equal (beside-step but e l start refl) (ap not x)
 
+-- Rows that fetch nothing from the address leave one state one.
+until-rows : {a : ℕ} {xs ys : List ℕ} (es ls : List ℕ) (s : State) → FullLoad s → EqualBut a xs ys
+    → fetchesNone a es ls (partOf s xs) ≡ true → Unfetched a es ls (partOf s xs) (partOf s ys)
+unfolding partStep
+until-rows [] ls s w but f = record { states = refl; answers = refl; arrays = but }
+until-rows (e ∷ es) [] s w but f = record { states = refl; answers = refl; arrays = but }
+until-rows {a} {xs} {ys} (e ∷ es) (l ∷ ls) s w but f =
+    let d = and-split (not (fetches a e l (partOf s xs))) (fetchesNone a es ls (partStep e l (partOf s xs))) f in
+    let x = states-stay e l s but (not-true (fetches a e l (partOf s xs)) (d .0)) in
+    let u = until-rows es ls (stepOf e l xs s) (whole-kept e l xs s w) (arrays-kept e l s w but) (d .1) in
+    let p : Part = partOf (stepOf e l xs s) (arrayOf e l xs s) in
+    let m = ap (λ (t : State). partOf t (arrayOf e l ys s)) x in
+    record {
+      states = u .states ∙ ap (λ (z : Part). runOf es ls z .state) m;
+      answers = ap (λ (r : List ℕ). answerOf (p .state) ∷ r) (u .answers) ∙ ap (λ (z : Part). answerOf (z .state) ∷ answersOf es ls z) m;
+      arrays = subst (λ (z : Part). EqualBut a (runOf es ls p .array) (runOf es ls z .array)) m (u .arrays);
+    }
+
 -- How two parts in one state go through the rows, samples counted from i: the first cover makes them equal, or there is none.
 data Covers (a i : ℕ) (es ls : List ℕ) (p q : Part) : Type 0 where
   covered-at : (k : ℕ) → firstCover a i es ls p ≡ sample (i + k) → Covered k es ls p q → Covers a i es ls p q
@@ -127,7 +146,11 @@ module _ {a i e l : ℕ} {es ls : List ℕ} {p q : Part} (x : fetches a e l p �
   covers-here y f =
       let here : i + 0 ≡ i = omega arith in
       covered-at 0 (rw (x, y, here))
-      record { parts = f; after = ap (runOf es ls) f; answers = ap (λ (z : Part). answerOf (z .state) ∷ answersOf es ls z) f }
+      record { later = go; after = ap (runOf es ls) f; answers = ap (λ (z : Part). answerOf (z .state) ∷ answersOf es ls z) f }
+    where
+      go : (n : ℕ) → 0 < n → runOf (take n (e ∷ es)) (take n (l ∷ ls)) p ≡ runOf (take n (e ∷ es)) (take n (l ∷ ls)) q
+      go zero h = absurd (omega arith)
+      go (suc n) h = ap (runOf (take n es) (take n ls)) f
 
   -- Without a cover they go as through the later rows.
   covers-later : covers a e l p ≡ false → partStep e l p .state ≡ partStep e l q .state
@@ -137,7 +160,11 @@ module _ {a i e l : ℕ} {es ls : List ℕ} {p q : Part} (x : fetches a e l p �
       let d = ap answerOf f in
       let t = c .answers in
       covered-at (suc k) (rw (x, y) (r ∙ ap sample b))
-      record { parts = c .parts; after = c .after; answers = cc }
+      record { later = go; after = c .after; answers = cc }
+    where
+      go : (n : ℕ) → suc k < n → runOf (take n (e ∷ es)) (take n (l ∷ ls)) p ≡ runOf (take n (e ∷ es)) (take n (l ∷ ls)) q
+      go zero h = absurd (omega arith)
+      go (suc n) h = c .later n (omega arith)
   covers-later y f (uncovered r) = uncovered (rw (x, y) r)
 
 -- They go so by whether a sample fetches from the address, and whether it covers it.
@@ -185,7 +212,7 @@ module _ {a : ℕ} {es ls : List ℕ} {p q : Part} where
       → Alike a es ls p q
   unreached-of f (splits j r d s) = absurd (let z : _≡_ {A = ℕ} 0 1 = cc in omega arith)
   unreached-of f (stays r d s n y) =
-      record { answers = s; states = beside-silenced (n .states) y; equal = beside-equal (n .states); arrays = n .arrays }
+      record { answers = s; states = same-but-out _ _ (beside-silenced (n .states) y); equal = beside-equal (n .states); arrays = n .arrays }
 
   -- The first cover makes them equal.
   covered-of : (k : ℕ) → firstCover a 0 es ls p ≡ sample k → Covers a 0 es ls p q → Covered k es ls p q
@@ -195,10 +222,26 @@ module _ {a : ℕ} {es ls : List ℕ} {p q : Part} where
       rw d at c
   covered-of k f (uncovered r) = absurd (let z : _≡_ {A = ℕ} 0 1 = cc in omega arith)
 
+-- Two states that are the same in all but the byte being sent, and in it too, are one.
+pub same-state : (s t : State) → SameButOut s t → s .device .talk .out ≡ t .device .talk .out → s ≡ t
+same-state s t h e = λ i.
+    record {
+      chip = h .chip i;
+      timers = h .timers i;
+      wire = h .wire i;
+      device =
+          record {
+            talk = record { phase = h .phase i; high = h .high i; out = e i; own = h .own i };
+            counter = h .counter i;
+            control = h .control i;
+          };
+      load = h .load i;
+    }
+
 -- Two parts in one state, their arrays equal but for an address, given the same samples: demand 3 holds of them.
-pub demand-3 : (a : ℕ) (s : State) (xs ys es ls : List ℕ) → FullLoad s → EqualBut a xs ys
-    → Demand3 a es ls record { state = s; array = xs } record { state = s; array = ys }
-demand-3 a s xs ys es ls w but =
+pub two-parts : (a : ℕ) (s : State) (xs ys es ls : List ℕ) → FullLoad s → EqualBut a xs ys
+    → TwoParts a es ls record { state = s; array = xs } record { state = s; array = ys }
+two-parts a s xs ys es ls w but =
     let n : Near a (partOf s xs) (partOf s ys) nothing nothing =
     record { states = equal refl refl refl; arrays = but; whole = w } in
     let t = goes 0 es ls n refl in
@@ -206,6 +249,7 @@ demand-3 a s xs ys es ls w but =
       first = first-of t;
       reached = λ k f. reached-of k f t;
       unreached = λ f. unreached-of f t;
+      until = λ n f. until-rows (take n es) (take n ls) s w but f;
       covered = λ k f. covered-of k f (covers-rows 0 es ls s w but);
       out = shown es ls;
       uncovered = rows-stay a es ls (partOf s xs) w;

@@ -3,10 +3,10 @@
 -- the same until a read within these samples has fetched the byte at that address and sends a bit in which the two bytes
 -- are unequal. At that sample the SDA level differs, the reset pin and the write bit do not. If no read comes that far, no
 -- answer differs, and after the samples the parts differ at most in that array byte and, where it comes from that address,
--- in the byte being sent. A write that covers the address before a read fetches from it makes the parts the same from its
--- sample on. The bit said to be out is the SDA level that the part gives, and a byte that no write covers stays. A byte
+-- in the byte being sent. Until a byte fetched from the address is being sent the parts are in one state. A write that covers
+-- the address before a read fetches from it makes the parts the same from its sample on. The bit said to be out is the SDA level that the part gives, and a byte that no write covers stays. A byte
 -- fetched before the samples belongs to the state, and is the same in both.
-use Prim.Native.Nat.{ℕ, suc, _+_, _/_, _%_, _<_}
+use Prim.Native.Nat.{ℕ, _+_, _/_, _%_, _<_}
 use mathlib.Core.Bool.{Bool, true, false, not, _&&_, Bool·beq}
 use mathlib.Core.List.{List, [], _∷_}
 use mathlib.Core.Path.{_≡_}
@@ -16,7 +16,6 @@ use Rattle.ground.specs.Numbers.{pageSize}
 use Rattle.page.specs.Page.{pageOf, at, inPage}
 use Rattle.part.specs.declared.state.State.{State}
 use Rattle.wire.specs.declared.Sign.the-variants.{Quiet, Start, Stop, Bit, Byte, Ninth}
-use Rattle.part.specs.State.{withDevice, withTalk, withOut}
 use Rattle.sample.specs.Sample.{opensOf, Seen, unseen, sees, seenOf}
 use Rattle.sample.specs.Run.{Part, partStep, runOf, answersOf}
 use Rattle.demand3.specs.Sending.{Sent, nothing, sends, sentOf, bitFrom}
@@ -90,6 +89,12 @@ firstCover a i (e ∷ es) [] p = never
 firstCover a i (e ∷ es) (l ∷ ls) p =
     firstCoverBy (fetches a e l p) (covers a e l p) i (firstCover a (i + 1) es ls (partStep e l p))
 
+-- No sample fetches from the address (Bytes on the wire, read; demand 3).
+abbrev pub fetchesNone : ℕ → List ℕ → List ℕ → Part → Bool
+fetchesNone a [] ls p = true
+fetchesNone a (e ∷ es) [] p = true
+fetchesNone a (e ∷ es) (l ∷ ls) p = not (fetches a e l p) && fetchesNone a es ls (partStep e l p)
+
 -- No sample's write covers the address (Bytes on the wire, stop: all others stay).
 abbrev pub coversNone : ℕ → List ℕ → List ℕ → Part → Bool
 coversNone a [] ls p = true
@@ -106,9 +111,17 @@ pub record FullLoad (s : State) : Type 0 where
   pub bytes : length (s .load .bytes) ≡ pageSize
   pub marks : length (s .load .marks) ≡ pageSize
 
--- A state without the byte being sent (State and time, a byte being sent).
-abbrev pub silenced : State → State
-silenced s = withDevice s (withTalk (s .device) (withOut (s .device .talk) 0))
+-- Two states that are the same in all but the byte being sent (State and time, a byte being sent).
+pub record SameButOut (s t : State) : Type 0 where
+  pub chip : s .chip ≡ t .chip
+  pub timers : s .timers ≡ t .timers
+  pub wire : s .wire ≡ t .wire
+  pub load : s .load ≡ t .load
+  pub counter : s .device .counter ≡ t .device .counter
+  pub control : s .device .control ≡ t .device .control
+  pub phase : s .device .talk .phase ≡ t .device .talk .phase
+  pub high : s .device .talk .high ≡ t .device .talk .high
+  pub own : s .device .talk .own ≡ t .device .talk .own
 
 -- Nothing is being sent, or a byte fetched elsewhere (demand 3).
 abbrev pub elsewhere : ℕ → Sent → Bool
@@ -130,23 +143,33 @@ pub record SplitAt (k : ℕ) (xs ys : List ℕ) : Type 0 where
 -- sent (demand 3; State and time, a byte being sent).
 pub record Alike (a : ℕ) (es ls : List ℕ) (p q : Part) : Type 0 where
   pub answers : answersOf es ls p ≡ answersOf es ls q
-  pub states : silenced (runOf es ls p .state) ≡ silenced (runOf es ls q .state)
+  pub states : SameButOut (runOf es ls p .state) (runOf es ls q .state)
   pub equal : elsewhere a (sentAfter es ls p nothing) ≡ true → runOf es ls p .state ≡ runOf es ls q .state
   pub arrays : EqualBut a (runOf es ls p .array) (runOf es ls q .array)
 
--- Two parts that a covering write made equal: right after that sample, at the end, and in all answers (demand 3).
+-- Two parts after rows in which nothing was fetched from the address: in one state, answers alike, arrays equal but for the
+-- address (demand 3).
+pub record Unfetched (a : ℕ) (es ls : List ℕ) (p q : Part) : Type 0 where
+  pub states : runOf es ls p .state ≡ runOf es ls q .state
+  pub answers : answersOf es ls p ≡ answersOf es ls q
+  pub arrays : EqualBut a (runOf es ls p .array) (runOf es ls q .array)
+
+-- Two parts that a covering write made equal: after that sample and every later one, at the end, and in all answers (demand 3).
 pub record Covered (k : ℕ) (es ls : List ℕ) (p q : Part) : Type 0 where
-  pub parts : runOf (take (suc k) es) (take (suc k) ls) p ≡ runOf (take (suc k) es) (take (suc k) ls) q
+  pub later : (n : ℕ) → k < n → runOf (take n es) (take n ls) p ≡ runOf (take n es) (take n ls) q
   pub after : runOf es ls p ≡ runOf es ls q
   pub answers : answersOf es ls p ≡ answersOf es ls q
 
--- Demand 3 of two parts in one state, arrays equal but for the address a, and the same rows (demand 3; Leaving no slack).
-pub record Demand3 (a : ℕ) (es ls : List ℕ) (p q : Part) : Type 0 where
+-- What demand 3 says of two parts in one state, arrays equal but for the address a, and the same rows. What it asks of them, and
+-- of which it is said, stands in chip_claims/specs/Demand3 (demand 3; Leaving no slack).
+pub record TwoParts (a : ℕ) (es ls : List ℕ) (p q : Part) : Type 0 where
   -- The answers first differ where an unequal bit is first reached, there in the SDA bit alone (demand 3).
   pub first : firstDiff 0 (answersOf es ls p) (answersOf es ls q) ≡ firstReach a 0 es ls p q nothing nothing
   pub reached : (k : ℕ) → firstReach a 0 es ls p q nothing nothing ≡ sample k → SplitAt k (answersOf es ls p) (answersOf es ls q)
   -- Where none is reached, the parts are alike but for the address (demand 3).
   pub unreached : firstReach a 0 es ls p q nothing nothing ≡ never → Alike a es ls p q
+  -- Until a byte fetched from the address is being sent, the parts are in one state and answer alike (demand 3).
+  pub until : (n : ℕ) → fetchesNone a (take n es) (take n ls) p ≡ true → Unfetched a (take n es) (take n ls) p q
   -- A write that covers the address before any fetch from it makes the parts equal (demand 3).
   pub covered : (k : ℕ) → firstCover a 0 es ls p ≡ sample k → Covered k es ls p q
   -- The bit that is out is what a part gives on SDA, whichever part it is (Bytes on the wire, read).

@@ -1,14 +1,15 @@
--- What holds of every sample that a reachable part is given: no start and no stop while it holds SDA low, and marks only
--- in the counter's page. Assumes nothing.
-use Prim.Native.Nat.{ℕ}
+-- What holds of every sample that a reachable part is given: no start and no stop while it holds SDA low, marks only in
+-- the counter's page, and SDA released where the sending of a byte ends. Assumes nothing.
+use Prim.Native.Nat.{ℕ, _<_}
 use mathlib.Core.Bool.{Bool, true, false, true≢false, _&&_}
 use mathlib.Core.List.{List}
 use mathlib.Core.Path.{_≡_, refl, ap, sym, _∙_}
+use native.Mathlib.Omega.{arith}
 use lib.Dec.{eqb, ltb}
 use lib.ListN.{getD, set, getD-replicate, List·getD-eq-default}
 use lib.Seq.{getD-set-other}
 use borrow.Author.Tests.{ltb-true, ltb-false, eqb-true, eqb-false}
-use Rattle.ground.specs.Numbers.{pageSize}
+use Rattle.ground.specs.Numbers.{pageSize, mostBits}
 use Rattle.ground.specs.Kind.{kindOf}
 use Rattle.page.specs.Page.{pageOf, inPage, emptyLoad, marked}
 use Rattle.ground.specs.declared.kinds.Kind.{Kind}
@@ -19,19 +20,24 @@ use Rattle.part.specs.declared.state.Device.{Device}
 use Rattle.part.specs.declared.state.Load.{Load}
 use Rattle.part.specs.declared.state.Place.{Place}
 use Rattle.part.specs.declared.state.State.{State}
+use Rattle.part.specs.declared.state.Talk.{Talk}
+use Rattle.part.specs.declared.state.Wire.{Wire}
 use Rattle.page.proofs.Places.{page-stays}
-use Rattle.wire.specs.Sign.{allButOne, fallSignBy, fallSign, signBy, signOf}
+use Rattle.part.specs.State.{withWire}
+use Rattle.wire.specs.Sign.{allButOne, fallSignBy, fallSign, signBy, signOf, wireOf}
 use Rattle.wire.specs.declared.Sign.{Sign}
 use Rattle.wire.specs.declared.Sign.the-variants.{Quiet, Start, Stop, Bit, Byte, Ninth}
 use Rattle.device.specs.Bytes.{takenOf, dataBy, byteIn, byteOf, keptBy, expectsData, keptOf}
-use Rattle.bits.specs.Bits.{bitOf, ninthOf}
+use Rattle.bits.specs.Bits.{bitIn, bitOf, answeredBy, ninthIn, ninthOf}
 use Rattle.bits.proofs.Phases.{bit-stays, ninth-releases}
+use Rattle.ends.specs.Ends.{startedOf, stoppedOf, endedOf}
 use Rattle.levels.specs.Level.{sclOf, sdaOf, wpOf}
-use Rattle.sample.specs.Sample.{opensOf, resetOf, startOf, stopOf, byteStep, heardBy, lineOf, signIn, wiredOf, Seen, unseen, sees, seenOf, goesOnBy, stepOf}
+use Rattle.sample.specs.Sample.{opensOf, resetOf, startOf, stopOf, byteStep, heardBy, lineOf, signIn, wiredOf, Seen, unseen, sees, seenBy, seenOf, goesOnBy, stepOf}
 use Rattle.sample.specs.Run.{Part, partStep}
-use Rattle.reachable.specs.Reachable.{Reachable, Holds}
+use Rattle.ranges.proofs.Signs.{Saw, saw}
+use Rattle.reachable.specs.Reachable.{Reachable, speaks, sendsNow, Holds}
 use Rattle.reachable.proofs.Kept.Steps.{Sits, low-line}
-use Rattle.reachable.proofs.Reachable.{Stands, reachable-stands}
+use Rattle.reachable.proofs.Reachable.{Stands, reachable-stands, sends-now, now-sends}
 
 -- The two signs that begin and end a talk.
 abbrev isEnd : Sign → Bool
@@ -147,6 +153,87 @@ step-stays : (e level : ℕ) (array : List ℕ) (s : State) → (marked (s .load
 unfolding stepOf opensOf
 step-stays e level array s x = goes-stays (seenOf level (opensOf e level s)) level array (opensOf e level s) x
 
+-- A talk that was sending a byte, after a sample: it still does, so many bits committed, or SDA is released.
+data Ends (t : Talk) (m : ℕ) : Type 0 where
+  goes-on : speaks (t .phase) ≡ true → m < mostBits → Ends t m
+  releases : t .own ≡ true → Ends t m
+
+-- A bit of it goes on.
+bit-speaks : (p : Phase) (d : Device) → speaks p ≡ true → speaks (bitIn p d .talk .phase) ≡ true
+bit-speaks Idle d e = absurd (true≢false (sym e))
+bit-speaks Silent d e = absurd (true≢false (sym e))
+bit-speaks Slave d e = absurd (true≢false (sym e))
+bit-speaks High d e = absurd (true≢false (sym e))
+bit-speaks Low d e = absurd (true≢false (sym e))
+bit-speaks Data d e = absurd (true≢false (sym e))
+bit-speaks Register d e = absurd (true≢false (sym e))
+bit-speaks Send d e = refl
+bit-speaks SendRegister d e = refl
+
+-- Its eighth fall releases SDA.
+byte-releases : (p : Phase) (k : Kind) (s v : ℕ) (d : Device) → speaks p ≡ true → byteIn p k s d v .talk .own ≡ true
+byte-releases Idle k s v d e = absurd (true≢false (sym e))
+byte-releases Silent k s v d e = absurd (true≢false (sym e))
+byte-releases Slave k s v d e = absurd (true≢false (sym e))
+byte-releases High k s v d e = absurd (true≢false (sym e))
+byte-releases Low k s v d e = absurd (true≢false (sym e))
+byte-releases Data k s v d e = absurd (true≢false (sym e))
+byte-releases Register k s v d e = absurd (true≢false (sym e))
+byte-releases Send k s v d e = refl
+byte-releases SendRegister k s v d e = refl
+
+-- A ninth fall fetches a byte, or the part is silent.
+ninth-ends : (p : Phase) (b : Bool) (k : Kind) (array : List ℕ) (d : Device) (m : ℕ) → speaks p ≡ true → m < mostBits
+    → Ends (ninthIn p k array b d .talk) m
+ninth-ends Idle b k array d m e h = absurd (true≢false (sym e))
+ninth-ends Silent b k array d m e h = absurd (true≢false (sym e))
+ninth-ends Slave b k array d m e h = absurd (true≢false (sym e))
+ninth-ends High b k array d m e h = absurd (true≢false (sym e))
+ninth-ends Low b k array d m e h = absurd (true≢false (sym e))
+ninth-ends Data b k array d m e h = absurd (true≢false (sym e))
+ninth-ends Register b k array d m e h = absurd (true≢false (sym e))
+ninth-ends Send false k array d m e h = goes-on refl h
+ninth-ends Send true k array d m e h = releases refl
+ninth-ends SendRegister b k array d m e h = goes-on refl h
+
+-- Each sign.
+heard-ends : (sign : Sign) (wp : Bool) (array : List ℕ) (s : State) (w : Wire)
+    → Saw sign (s .wire .frame .bits) (w .frame .bits) (w .lines .scl)
+    → speaks (s .device .talk .phase) ≡ true → s .wire .frame .bits < mostBits
+    → Ends (heardBy sign wp array (withWire s w) .device .talk) (heardBy sign wp array (withWire s w) .wire .frame .bits)
+unfolding startOf startedOf stopOf stoppedOf byteStep bitOf byteOf ninthOf
+heard-ends Quiet wp array s w e a n = goes-on a (omega arith)
+heard-ends Start wp array s w e a n = releases refl
+heard-ends (Stop b) wp array s w e a n = releases refl
+heard-ends Bit wp array s w e a n = goes-on (bit-speaks (s .device .talk .phase) (s .device) a) (e .0)
+heard-ends (Byte v) wp array s w e a n =
+    releases (byte-releases (s .device .talk .phase) (kindOf (s .chip .part)) (s .chip .select) v (s .device) a)
+heard-ends (Ninth b) wp array s w e a n =
+    ninth-ends (s .device .talk .phase) b (kindOf (s .chip .part)) array (s .device) (w .frame .bits) a (omega (arith, e .0))
+
+-- Rules 3 and 4, by whether reset is active.
+goes-ends : (b : Bool) (level : ℕ) (array : List ℕ) (s : State) → speaks (s .device .talk .phase) ≡ true
+    → s .wire .frame .bits < mostBits
+    → Ends (goesOnBy (seenBy b (signIn level s)) level array s .device .talk)
+    (goesOnBy (seenBy b (signIn level s)) level array s .wire .frame .bits)
+unfolding resetOf endedOf signIn wiredOf wireOf
+goes-ends true level array s a n = releases refl
+goes-ends false level array s a n =
+    heard-ends (signIn level s) (wpOf level) array s (wireOf (s .wire) (sclOf level) (lineOf level s))
+    (saw (s .wire) (sclOf level) (lineOf level s)) a n
+
+-- A sample.
+step-ends : (e level : ℕ) (array : List ℕ) (s : State) → speaks (s .device .talk .phase) ≡ true
+    → s .wire .frame .bits < mostBits
+    → Ends (stepOf e level array s .device .talk) (stepOf e level array s .wire .frame .bits)
+unfolding stepOf opensOf seenOf
+step-ends e level array s a n = goes-ends (opensOf e level s .timers .reset) level array (opensOf e level s) a n
+
+-- Where the sending has ended, SDA is released.
+ended-released : (s : State) → Ends (s .device .talk) (s .wire .frame .bits) → sendsNow s ≡ false → s .device .talk .own ≡ true
+ended-released s (goes-on a b) e = absurd (true≢false (sym (sends-now s a b) ∙ e))
+ended-released s (releases a) e = a
+
 -- So it is of every part that stands so.
 stands-holds : (p : Part) → Stands p → Holds p
 unfolding partStep
@@ -158,6 +245,9 @@ stands-holds p t =
       stop = λ e level n o f. true≢false (sym (ap isEnd f) ∙ held-inside e level (p .state) g o);
       mark = λ e level i a b. step-stays e level (p .array) (p .state) (λ y. g .talks .opens y .phase) .mark i a b;
       page = λ e level m. step-stays e level (p .array) (p .state) (λ y. g .talks .opens y .phase) .page m;
+      released = λ e level x y.
+          let t = now-sends (p .state) x in
+          ended-released (stepOf e level (p .array) (p .state)) (step-ends e level (p .array) (p .state) (t .0) (t .1)) y;
     }
 
 -- So it is of every reachable part.

@@ -83,11 +83,11 @@ reachable-stands p r =
     })
 
 -- In a phase of a read, below the eighth bit, a byte is being sent.
-sends-now : (s : State) → speaks (s .device .talk .phase) ≡ true → s .wire .frame .bits < mostBits → sendsNow s ≡ true
+pub sends-now : (s : State) → speaks (s .device .talk .phase) ≡ true → s .wire .frame .bits < mostBits → sendsNow s ≡ true
 sends-now s a b = rw (a, lt-ltb (s .wire .frame .bits) mostBits b)
 
 -- Only there a byte is being sent.
-now-sends : (s : State) → sendsNow s ≡ true
+pub now-sends : (s : State) → sendsNow s ≡ true
     → (speaks (s .device .talk .phase) ≡ true) × (s .wire .frame .bits < mostBits)
 now-sends s e =
     let t = and-split (speaks (s .device .talk .phase)) (ltb (s .wire .frame .bits) mostBits) e in

@@ -3,8 +3,8 @@
 -- For a person from the line: switch on a known part, with an array of its size, and give it any samples whatever. It
 -- pulls SDA low only to acknowledge a byte or to send a 0, and while it does so it sees no start and no stop. It holds
 -- bytes for the array only while they come in, with WEL set and the place not locked, all of them in one page; it holds
--- a byte for the control register only while that is addressed, and never beside them. What the ranges of refusal 4 ask
--- of a state holds after every sample.
+-- a byte for the control register only while that is addressed, and never beside them. A sample that ends the sending of
+-- a byte leaves SDA released. What the ranges of refusal 4 ask of a state holds after every sample.
 use Prim.Native.Nat.{ℕ}
 use mathlib.Core.Bool.{Bool, true, false, _&&_}
 use mathlib.Core.List.{List}
@@ -136,3 +136,6 @@ pub record Holds (p : Part) : Type 0 where
   -- A sample that leaves a mark set keeps the counter in its page: all marks lie there (Bytes on the wire, array data).
   pub page : (e level : ℕ) → marked (partStep e level p .state .load) ≡ true
       → pageOf (partStep e level p .state .device .counter) ≡ pageOf (p .state .device .counter)
+  -- A sample that ends the sending of a byte leaves SDA released (Bytes on the wire, read; State and time, 3).
+  pub released : (e level : ℕ) → sendsNow (p .state) ≡ true → sendsNow (partStep e level p .state) ≡ false
+      → partStep e level p .state .device .talk .own ≡ true

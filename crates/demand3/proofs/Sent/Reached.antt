@@ -15,7 +15,8 @@ use Rattle.part.specs.declared.state.State.{State}
 use Rattle.levels.specs.Level.{pinBy, answerOf}
 use Rattle.sample.specs.Sample.{stepOf}
 use Rattle.demand3.specs.Sending.{Sent, nothing, sends, sentOf, bitFrom}
-use Rattle.demand3.specs.Differ.{reaches, elsewhere, EqualBut, silenced}
+use Rattle.demand3.specs.Differ.{reaches, elsewhere, EqualBut, SameButOut}
+use Rattle.demand3.proofs.Sent.TwoArrays.{silenced}
 use Rattle.demand3.proofs.Sent.OneSample.{partOf, sendingState, BothSend, Beside, equal, apart, step-equal, step-apart}
 
 -- Bits that are equal are one bit.
@@ -24,6 +25,21 @@ same-one true true e = refl
 same-one true false e = sym e
 same-one false true e = e
 same-one false false e = refl
+
+-- States that are equal without the byte being sent are the same in all else.
+pub same-but-out : (s t : State) → silenced s ≡ silenced t → SameButOut s t
+same-but-out s t e =
+    record {
+      chip = ap (λ (x : State). x .chip) e;
+      timers = ap (λ (x : State). x .timers) e;
+      wire = ap (λ (x : State). x .wire) e;
+      load = ap (λ (x : State). x .load) e;
+      counter = ap (λ (x : State). x .device .counter) e;
+      control = ap (λ (x : State). x .device .control) e;
+      phase = ap (λ (x : State). x .device .talk .phase) e;
+      high = ap (λ (x : State). x .device .talk .high) e;
+      own = ap (λ (x : State). x .device .talk .own) e;
+    }
 
 -- A byte from elsewhere reaches nothing.
 reach-none : (a : ℕ) (g h : Sent) → elsewhere a g ≡ true → reaches a g h ≡ false

@@ -18,6 +18,7 @@ use Rattle.part.specs.declared.state.Phase.{Phase}
 use Rattle.part.specs.declared.state.Phase.the-variants.{Idle, Silent, Slave, High, Low, Data, Register, Send, SendRegister}
 use Rattle.part.specs.declared.state.Place.{Place}
 use Rattle.part.specs.declared.state.State.{State}
+use Rattle.part.specs.State.{withDevice, withTalk, withOut}
 use Rattle.ground.specs.declared.kinds.Kind.{Kind}
 use Rattle.ground.proofs.Tests.{and-split}
 use Rattle.page.proofs.Stored.{store-length, store-at}
@@ -26,7 +27,7 @@ use Rattle.wire.specs.declared.Sign.the-variants.{Quiet, Start, Stop, Bit, Byte
 use Rattle.device.specs.Bytes.{takenOf, keptBy, expectsData, keptOf}
 use Rattle.levels.specs.Level.{wpOf}
 use Rattle.sample.specs.Sample.{opensOf, resetOf, startOf, stopOf, byteStep, heardBy, savedBy, writtenBy, signIn, wiredOf, Seen, unseen, sees, seenOf, goesOnBy, stepOf, keepsBy, arrayOf}
-use Rattle.demand3.specs.Differ.{coversBy, covers, EqualBut, FullLoad, silenced}
+use Rattle.demand3.specs.Differ.{coversBy, covers, EqualBut, FullLoad}
 
 -- A mark that is set is one of the marks.
 some-mark : (ms : List Bool) (i : ℕ) → getD ms i false ≡ true → anyMarked ms ≡ true
@@ -133,6 +134,10 @@ module _ {a : ℕ} {xs ys : List ℕ} (e level : ℕ) (s : State) (w : FullLoad 
       → arrayOf e level xs s ≡ arrayOf e level ys s
   unfolding arrayOf covers
   arrays-equal c = keeps-equal (seenOf level (opensOf e level s)) c
+
+-- A state without the byte being sent.
+abbrev pub silenced : State → State
+silenced s = withDevice s (withTalk (s .device) (withOut (s .device .talk) 0))
 
 -- The byte being sent does not count for what a sign writes.
 written-silent : (sign : Sign) (e level : ℕ) (s : State) (xs : List ℕ)

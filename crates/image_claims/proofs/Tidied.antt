@@ -1,27 +1,26 @@
 -- What the program writes. Of a text that is too long it says 11 whatever follows the first 65,537 bytes, so that it need not read
 -- further. A text that is accepted and in the fixed form is written as it is, and what was written for an accepted text is written
--- again. The lengths that the paper names are those of the texts. No axiom is used.
+-- again. It rests on the claims that it names.
 use Prim.Native.Nat.{ℕ, _+_, _*_, _≤_, _<_}
 use mathlib.Core.Bool.{Bool, true, false}
-use mathlib.Core.List.{List}
+use mathlib.Core.List.{List, _++_}
 use mathlib.Core.Path.{_≡_, refl, ap, sym, _∙_}
 use native.Mathlib.Omega.{arith}
 use lib.Dec.{leb}
-use lib.ListN.{length, take, length-take}
-use lib.Seq.{take-all}
+use lib.ListN.{length, take, drop, length-take}
+use lib.Seq.{take-all, take-at}
 use borrow.Author.Tests.{leb-true, leb-false, le-leb, lt-leb}
 use Rattle.forms.specs.Form.{rowSize}
 use Rattle.forms.specs.Reading.{mostText, readingOf}
-use Rattle.forms.specs.Writing.{imageText, linesLength}
-use Rattle.forms.proofs.Lengths.{length-image, length-most}
+use Rattle.forms.specs.Writing.{imageText}
 use Rattle.intel.specs.Intel.{intel}
-use Rattle.formats.proofs.Named.{length-record, intel-measured}
 use Rattle.image.specs.Promises.{largestSize}
+use Rattle.texts.specs.Laying.{Starts}
 use Rattle.tidying.specs.Shown.{shownOf}
 use Rattle.round_trip.specs.RoundTrip.{Takes}
 use Rattle.round_trip.proofs.WrittenBack.{takes-rows}
-use Rattle.intel_trip.specs.Trip.{Lengths, Tidied}
-use Rattle.intel_trip.proofs.ImageTrip.{image-round-trip}
+use Rattle.image_claims.specs.Trip.{Tidied}
+use Rattle.image_claims.specs.Images.{IntelTrips, Tidies, TidyTwice}
 
 -- A text that is not too long is all that is kept of it; of a longer one enough is kept to be too long.
 cut-by : (size : ℕ) (text : List ℕ) (b : Bool) → leb (length text) mostText ≡ b
@@ -35,7 +34,7 @@ cut-by size text false e =
     let n : length (take (mostText + 1) text) ≡ mostText + 1 = length-take (mostText + 1) text ∙ omega arith in
     rw (e, lt-leb (length (take (mostText + 1) text)) mostText (omega arith))
 
-module _ (n : ℕ) (h : n * rowSize ≤ largestSize) where
+module _ (trips : IntelTrips) (n : ℕ) (h : n * rowSize ≤ largestSize) where
   -- An accepted text is shown in the fixed form of its array.
   shown-taken : (text array : List ℕ) → Takes intel n text array → shownOf (n * rowSize) text ≡ imageText intel array
   unfolding shownOf
@@ -47,26 +46,32 @@ module _ (n : ℕ) (h : n * rowSize ≤ largestSize) where
   shown-cut text = rw (← cut-by (n * rowSize) text (leb (length text) mostText) refl)
 
   -- The program's three habits.
-  pub tidied : Tidied n
+  tidied : Tidied n
   tidied =
       record {
         cut = shown-cut;
-        keeps = λ text array t f. shown-taken text array t ∙ image-round-trip n h .writes-back text array t f;
+        keeps = λ text array t f. shown-taken text array t ∙ trips .trip n h .writes-back text array t f;
         again = λ text array t.
             let r = takes-rows intel n text array t in
             let s = shown-taken text array t in
-            let u = image-round-trip n h .reads-back array r in
+            let u = trips .trip n h .reads-back array r in
             ap (shownOf (n * rowSize)) s ∙ shown-taken (imageText intel array) array u ∙ sym s;
       }
 
--- The lengths.
-pub lengths : Lengths
-unfolding linesLength
-lengths =
+-- The habits at every size that a part can have.
+pub tidies-from : IntelTrips → Tidies
+tidies-from trips = record { habits = tidied trips }
+
+-- What starts a buffer is what is taken of it.
+starts-text : (text out : List ℕ) (r : ℕ) (out′ : List ℕ) → Starts text out r out′ → take r out′ ≡ text
+starts-text text out r out′ x = rw (x .shown) (take-at text (drop r out) r (sym (x .count)))
+
+-- The work done twice.
+pub twice-from : Tidies → TidyTwice
+twice-from tidies =
     record {
-      answered = length-image intel intel-measured;
-      row = λ address row h. length-record address 0 row ∙ rw h;
-      end = length-record 0 1 _;
-      most = λ array. omega (arith, length-image intel intel-measured array, length-most intel array);
-      small = refl;
+      again = λ n text array out out′ out₂ out₂′ r r₂ h t x y.
+          let a = starts-text (shownOf (n * rowSize) text) out r out′ x in
+          let b = starts-text (shownOf (n * rowSize) (take r out′)) out₂ r₂ out₂′ y in
+          b ∙ ap (shownOf (n * rowSize)) a ∙ tidies .habits n h .again text array t ∙ sym a;
     }

@@ -1,0 +1,41 @@
+-- The claims of the part at captures that were computed: each is used there whole, on a capture of some hundred samples (demand 3; document 01,
+-- Bytes on the wire). The captures and the two parts are those of demand3_runs/specs/Occurs.
+use Prim.Native.Nat.{ℕ}
+use mathlib.Core.Bool.{true, false}
+use mathlib.Core.List.{List}
+use mathlib.Core.Path.{_≡_}
+use lib.ListN.{length, take, drop, replicate}
+use Rattle.power.specs.declared.Replayed.{Replayed}
+use Rattle.sample.specs.Run.{Part, partStep}
+use Rattle.twin.specs.Promises.{Replays}
+use Rattle.waves.specs.Waves.{Capture}
+use Rattle.ranges.specs.Fit.{Fit}
+use Rattle.reachable.specs.Reachable.{Lowers}
+use Rattle.demand2.specs.Demand2.{Joined}
+use Rattle.demand3.specs.Differ.{SplitAt, TwoParts}
+use Rattle.demand3_runs.specs.Occurs.{spot, left, right, readIt, setWrite, cutRead, holdsOf}
+use Rattle.chip_claims.specs.Demand3.{over}
+
+-- An answer row for a capture, before the replay (What goes in and what comes out).
+abbrev pub blank : Capture → List ℕ
+blank c = replicate (length (c .levels)) 0
+
+-- An outcome of the replay of a capture (What goes in and what comes out).
+abbrev pub Gives : Capture → Part → Replayed → List ℕ → List ℕ → Type 0
+Gives c p r array′ row′ = Replays (p .state) (c .times) (c .levels) (p .array) (blank c) r array′ row′
+
+-- Replays of the read differ first at sample 126, in SDA alone; replays of the write come to the same; the read in two pieces is the read; from
+-- power-up the two parts are alike; and while the read is cut off after its third bit the part holds SDA low, for it sends a 0 (demand 3).
+pub record Replayed3 : Type 0 where
+  pub read : (r q : Replayed) (xs ys said said₂ : List ℕ) → Gives readIt left r xs said → Gives readIt right q ys said₂
+      → SplitAt 126 said said₂
+  pub write : (r q : Replayed) (xs ys said said₂ : List ℕ) → Gives setWrite left r xs said → Gives setWrite right q ys said₂
+      → (said ≡ said₂) × (r .state ≡ q .state) × (xs ≡ ys)
+  pub powered : TwoParts spot (readIt .times) (readIt .levels) left right
+  pub pieces : (r r₁ r₂ : Replayed) (xs xs₁ xs₂ said said₁ said₂ : List ℕ) → Gives readIt left r xs said
+      → Replays (left .state) (take 121 (readIt .times)) (take 121 (readIt .levels)) (left .array) (replicate 121 0) r₁ xs₁ said₁
+      → Replays (r₁ .state) (drop 121 (readIt .times)) (drop 121 (readIt .levels)) xs₁ (replicate 27 0) r₂ xs₂ said₂
+      → Joined 121 27 r r₁ r₂ xs xs₂ said said₁ said₂
+  pub again : (r : Replayed) (xs said : List ℕ) → Gives readIt left r xs said → Fit (over (r .state) xs)
+  pub low : (r : Replayed) (xs said : List ℕ) → Gives cutRead left r xs said → r .state .device .talk .own ≡ false → Lowers (r .state)
+  pub form : holdsOf partStep left right readIt ≡ true

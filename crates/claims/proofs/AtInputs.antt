@@ -1,0 +1,93 @@
+-- Demand 1 and the one reply at inputs. Each law rests on the claims that it names.
+use mathlib.Core.List.{List, [], _∷_}
+use mathlib.Core.Path.{_≡_, refl, sym}
+use lib.Dec.{leb}
+use Rattle.ground.specs.Kind.{kindOf}
+use Rattle.ground.specs.Numbers.{x4323, smallSize}
+use Rattle.ground.specs.Size.{sizeMeant}
+use Rattle.ground.specs.Verdict.{accepted, refused, meant}
+use Rattle.ground.specs.declared.Reply.the-variants.{Refused}
+use Rattle.ground.specs.declared.kinds.Size.the-variants.{Unknown}
+use Rattle.refusals.specs.Refusals.{powerOf, judgedOf}
+use Rattle.digits.specs.Digits.{glyphOf}
+use Rattle.forms.specs.Reading.{bad, readingOf}
+use Rattle.forms.specs.Writing.{linesLength}
+use Rattle.intel.specs.Intel.{intel}
+use Rattle.image.specs.Promises.{largestSize, imageBy, sized, imageOf, writeVerdict}
+use Rattle.texts.specs.Numbers.{decimalOf}
+use Rattle.texts.specs.Refusal.{refusalLine}
+use Rattle.runs.proofs.Opened.{opened}
+use Rattle.claims.specs.Demand1.{Demand1}
+use Rattle.claims.specs.OneReply.{OneReply}
+use Rattle.claims.specs.AtInputs.{fresh, ones, rows, RefusedAt, OneAt}
+
+-- Part 4324 is refused.
+no-part : powerOf 4324 0 0 ≡ refused 1 0
+unfolding powerOf kindOf
+no-part = refl
+
+-- Part 4323 is not.
+part-known : powerOf x4323 0 0 ≡ accepted 0
+unfolding powerOf kindOf
+part-known = refl
+
+-- A time over 100,000 at sample 1.
+too-long : judgedOf fresh (1 ∷ 100001 ∷ []) (0 ∷ 0 ∷ []) ones rows ≡ refused 9 1
+unfolding opened
+too-long = refl
+
+-- An empty text.
+no-text : imageOf intel smallSize [] ones ≡ bad 17 0
+unfolding imageOf sized readingOf
+no-text = refl
+
+-- No room.
+no-room : writeVerdict intel smallSize ones [] ≡ refused 19 0
+unfolding writeVerdict sized linesLength
+no-room = refl
+
+-- The line that the program writes for an empty text.
+no-text-line : imageBy (leb smallSize largestSize) (readingOf intel smallSize []) ≡ bad 17 0
+unfolding readingOf
+no-text-line = refl
+
+-- Demand 1 at these inputs.
+pub refused-from : Demand1 → RefusedAt
+unfolding refusalLine decimalOf glyphOf kindOf
+refused-from d =
+    record {
+      power-up = λ r x. d .power-up 4324 0 0 r 1 0 x no-part;
+      size = λ r x. d .size 4324 r x refl;
+      replay = λ r array′ row′ x.
+          d .replay fresh (1 ∷ 100001 ∷ []) (0 ∷ 0 ∷ []) ones rows r array′ row′ 9 1 x too-long;
+      read-image = λ r array′ x. d .read-image smallSize [] ones r array′ 17 0 x no-text;
+      tidy = λ out r out′ x. d .tidy smallSize [] out r out′ 17 0 x no-text-line;
+      write-image = λ r out′ x. d .write-image smallSize ones [] r out′ 19 0 x no-room;
+      door-power-up = λ r array′ row′ numbers′ x.
+          d .door-power-up 4324 0 0 (1 ∷ 1 ∷ []) (0 ∷ 0 ∷ []) ones rows (7 ∷ 7 ∷ []) r array′ row′ numbers′ 1 0 x refl no-part;
+      door-replay = λ r array′ row′ numbers′ x.
+          d .door-replay x4323 0 0 (1 ∷ 100001 ∷ []) (0 ∷ 0 ∷ []) ones rows (7 ∷ 7 ∷ []) r array′ row′ numbers′ 0 9 1 x refl part-known
+          too-long;
+      door-read-image = λ r array′ numbers′ x. d .door-read-image smallSize [] ones (7 ∷ 7 ∷ []) r array′ numbers′ 17 0 x refl no-text;
+      door-write-image = λ r out′ numbers′ x.
+          d .door-write-image smallSize ones [] (7 ∷ 7 ∷ []) r out′ numbers′ 19 0 x refl no-room;
+    }
+
+-- The one reply at these inputs: the outcome that is written out keeps the promise.
+pub one-from : OneReply → OneAt
+unfolding meant sizeMeant kindOf
+one-from o =
+    record {
+      power-up = λ r x.
+          o .power-up 4324 0 0 r (record { reply = Refused 1 0; state = fresh }) x
+          (record { reply = sym no-part; state = rw no-part });
+      size = λ r x. o .size 4324 r Unknown x (record { said = refl });
+      replay = λ r array′ row′ x.
+          o .replay fresh (1 ∷ 100001 ∷ []) (0 ∷ 0 ∷ []) ones rows (r, array′, row′)
+          (record { reply = Refused 9 1; state = fresh }, ones, rows) x
+          (record { reply = sym too-long; state = rw too-long; kept = rw too-long; said = rw too-long });
+      read-image = λ r array′ x.
+          o .read-image smallSize [] ones (r, array′) (Refused 17 0, ones) x (record { reply = rw no-text; kept = rw no-text });
+      write-image = λ r out′ x.
+          o .write-image smallSize ones [] (r, out′) (Refused 19 0, []) x (record { reply = sym no-room; said = rw no-room });
+    }

@@ -1,0 +1,53 @@
+-- All claims under one name. No axiom is used.
+use Rattle.demand2.proofs.Demand2.{demand-2}
+use Rattle.demand3_runs.proofs.Witness.{occurs}
+use Rattle.bent_steps.proofs.Bends.{bent-steps}
+use Rattle.chip_claims.proofs.Chip.{demand-3, replay-demand-3, power-demand-3, computed-form, reachable-states, handed-out, stays-fit, fit-again, cut-anywhere, replayed-3}
+use Rattle.image_claims.proofs.Images.{round-trips, intel-trips, lengths, write-then-read, door-trip, tidies, tidy-twice, room-enough, paper}
+use Rattle.claims.specs.AtInputs.{RefusedAt, OneAt}
+use Rattle.claims.specs.Claims.{Claims}
+use Rattle.claims.proofs.Demand1.{demand-1}
+use Rattle.claims.proofs.OneReply.{one-reply}
+use Rattle.claims.proofs.AtInputs.{refused-from, one-from}
+use Rattle.claims.proofs.BenchList.{bench-cases}
+
+-- Demand 1 at inputs.
+pub refused-at : RefusedAt
+refused-at = refused-from demand-1
+
+-- The one reply at inputs.
+pub one-at : OneAt
+one-at = one-from one-reply
+
+-- Each is shown in its own crate.
+pub claims : Claims
+claims =
+    record {
+      demand-1 = demand-1;
+      refused-at = refused-at;
+      demand-2 = demand-2;
+      cut-anywhere = cut-anywhere;
+      demand-3 = demand-3;
+      replay-demand-3 = replay-demand-3;
+      power-demand-3 = power-demand-3;
+      occurs = occurs;
+      computed-form = computed-form;
+      bent-steps = bent-steps;
+      reachable-states = reachable-states;
+      handed-out = handed-out;
+      stays-fit = stays-fit;
+      fit-again = fit-again;
+      replayed-3 = replayed-3;
+      round-trips = round-trips;
+      intel-trips = intel-trips;
+      write-then-read = write-then-read;
+      door-trip = door-trip;
+      tidies = tidies;
+      tidy-twice = tidy-twice;
+      lengths = lengths;
+      room-enough = room-enough;
+      paper = paper;
+      one-reply = one-reply;
+      one-at = one-at;
+      bench-cases = bench-cases;
+    }

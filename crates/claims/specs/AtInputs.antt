@@ -1,0 +1,76 @@
+-- Demand 1 and the one reply, at inputs: each operation is given something that the table refuses, and what it then says and leaves is
+-- written out (document 01, Refusal numbers; Leaving no slack). Where a state is asked it is that of an X4323 at power-up, and the array
+-- is all FFh.
+use Prim.Native.Nat.{ℕ}
+use mathlib.Core.List.{List, [], _∷_, _++_}
+use mathlib.Core.Path.{_≡_}
+use lib.ListN.{drop, replicate}
+use Rattle.ground.specs.Numbers.{x4323, smallSize}
+use Rattle.ground.specs.Verdict.{refused, meant}
+use Rattle.ground.specs.declared.Reply.{Reply}
+use Rattle.ground.specs.declared.Reply.the-variants.{Refused}
+use Rattle.ground.specs.declared.kinds.Size.{Size}
+use Rattle.ground.specs.declared.kinds.Size.the-variants.{Unknown}
+use Rattle.ground.specs.Size.{sizeMeant, SizesPart}
+use Rattle.part.specs.declared.state.State.{State}
+use Rattle.power.specs.declared.Replayed.{Replayed}
+use Rattle.power.specs.Power.{poweredUp}
+use Rattle.power.specs.Promises.{PowersUp}
+use Rattle.twin.specs.Promises.{Replays}
+use Rattle.intel.specs.Intel.{intel}
+use Rattle.image.specs.Promises.{ReadsImage, WritesImage}
+use Rattle.texts.specs.Laying.{Starts}
+use Rattle.tidying.specs.Shown.{shownOf}
+use Rattle.telling.specs.Told.{ReadsThrough, WritesThrough}
+use Rattle.door.specs.Promises.{ReplaysOnce}
+use Rattle.image_cases.specs.ImageCases.{codesOf}
+
+-- An X4323 at power-up (State and time, power-up).
+abbrev pub fresh : State
+fresh = poweredUp x4323 0 0
+
+-- An array all FFh (Image files, bytes not given).
+abbrev pub ones : List ℕ
+ones = replicate smallSize 0xFF
+
+-- The answer row before the replay.
+abbrev pub rows : List ℕ
+rows = 0 ∷ 0 ∷ []
+
+-- One refusal of each operation, by demand 1 (Refusal numbers, 1, 9, 17 and 19, and last lines).
+pub record RefusedAt : Type 0 where
+  -- part 4324
+  pub power-up : (r : Replayed) → PowersUp 4324 0 0 r → (meant (r .reply) ≡ refused 1 0) × (r .state ≡ fresh)
+  pub size : (r : Size) → SizesPart 4324 r → sizeMeant r ≡ refused 1 0
+  -- two times, the second over 100,000
+  pub replay : (r : Replayed) (array′ row′ : List ℕ) → Replays fresh (1 ∷ 100001 ∷ []) (0 ∷ 0 ∷ []) ones rows r array′ row′
+      → (meant (r .reply) ≡ refused 9 1) × (r .state ≡ fresh) × (array′ ≡ ones) × (row′ ≡ rows)
+  -- no text
+  pub read-image : (r : Reply) (array′ : List ℕ) → ReadsImage intel smallSize [] ones r array′
+      → (meant r ≡ refused 17 0) × (array′ ≡ ones)
+  pub tidy : (out : List ℕ) (r : ℕ) (out′ : List ℕ) → Starts (shownOf smallSize []) out r out′
+      → (r ≡ 5) × (out′ ≡ codesOf "17 0\n" ++ drop r out)
+  -- no room
+  pub write-image : (r : Reply) (out′ : List ℕ) → WritesImage intel smallSize ones [] r out′ → (meant r ≡ refused 19 0) × (out′ ≡ [])
+  -- the same through the door
+  pub door-power-up : (r : ℕ) (array′ row′ numbers′ : List ℕ)
+      → ReplaysOnce 4324 0 0 (1 ∷ 1 ∷ []) (0 ∷ 0 ∷ []) ones rows (7 ∷ 7 ∷ []) r array′ row′ numbers′
+      → (r ≡ 1) × (numbers′ ≡ 1 ∷ 0 ∷ []) × (array′ ≡ ones) × (row′ ≡ rows)
+  pub door-replay : (r : ℕ) (array′ row′ numbers′ : List ℕ)
+      → ReplaysOnce x4323 0 0 (1 ∷ 100001 ∷ []) (0 ∷ 0 ∷ []) ones rows (7 ∷ 7 ∷ []) r array′ row′ numbers′
+      → (r ≡ 1) × (numbers′ ≡ 9 ∷ 1 ∷ []) × (array′ ≡ ones) × (row′ ≡ rows)
+  pub door-read-image : (r : ℕ) (array′ numbers′ : List ℕ) → ReadsThrough smallSize [] ones (7 ∷ 7 ∷ []) r array′ numbers′
+      → (r ≡ 1) × (numbers′ ≡ 17 ∷ 0 ∷ []) × (array′ ≡ ones)
+  pub door-write-image : (r : ℕ) (out′ numbers′ : List ℕ) → WritesThrough smallSize ones [] (7 ∷ 7 ∷ []) r out′ numbers′
+      → (r ≡ 1) × (numbers′ ≡ 19 ∷ 0 ∷ []) × (out′ ≡ [])
+
+-- The same refusals as whole outcomes: there is no other (Leaving no slack, only one possible reply).
+pub record OneAt : Type 0 where
+  pub power-up : (r : Replayed) → PowersUp 4324 0 0 r → r ≡ record { reply = Refused 1 0; state = fresh }
+  pub size : (r : Size) → SizesPart 4324 r → r ≡ Unknown
+  pub replay : (r : Replayed) (array′ row′ : List ℕ) → Replays fresh (1 ∷ 100001 ∷ []) (0 ∷ 0 ∷ []) ones rows r array′ row′
+      → _≡_ {A = Replayed × List ℕ × List ℕ} (r, array′, row′) (record { reply = Refused 9 1; state = fresh }, ones, rows)
+  pub read-image : (r : Reply) (array′ : List ℕ) → ReadsImage intel smallSize [] ones r array′
+      → _≡_ {A = Reply × List ℕ} (r, array′) (Refused 17 0, ones)
+  pub write-image : (r : Reply) (out′ : List ℕ) → WritesImage intel smallSize ones [] r out′
+      → _≡_ {A = Reply × List ℕ} (r, out′) (Refused 19 0, [])

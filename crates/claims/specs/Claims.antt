@@ -1,0 +1,57 @@
+-- All that is claimed of the chip and of its images, in one record: `claims` of proofs/Claims has this type and no argument. Each field is a
+-- claim that is closed: what it speaks of and what it asks stands in its own record, in words at its head, and nothing is asked elsewhere.
+use Rattle.demand2.specs.Demand2.{Demand2}
+use Rattle.demand3_runs.specs.Occurs.{Occurs}
+use Rattle.bent_steps.specs.Bent.{BentSteps}
+use Rattle.chip_claims.specs.Demand3.{Demand3, ReplayDemand3, PowerDemand3, ComputedForm}
+use Rattle.chip_claims.specs.States.{ReachableStates, HandedOut, StaysFit, FitAgain, CutAnywhere}
+use Rattle.chip_claims.specs.Runs.{Replayed3}
+use Rattle.image_claims.specs.Images.{RoundTrips, IntelTrips, Lengths, WriteThenRead, DoorTrip, Tidies, TidyTwice, RoomEnough}
+use Rattle.image_claims.specs.Paper.{Paper}
+use Rattle.claims.specs.Demand1.{Demand1}
+use Rattle.claims.specs.OneReply.{OneReply}
+use Rattle.claims.specs.AtInputs.{RefusedAt, OneAt}
+use Rattle.claims.specs.BenchCases.{BenchCases}
+
+-- The claims (document 01, Leaving no slack).
+pub record Claims : Type 0 where
+  -- A refusal says its number and place and changes nothing; each operation at an input that is refused.
+  pub demand-1 : Demand1
+  pub refused-at : RefusedAt
+  -- An accepted capture gives what one sample's rule gives, sample after sample; it may be cut anywhere.
+  pub demand-2 : Demand2
+  pub cut-anywhere : CutAnywhere
+  -- Two parts that differ in one byte of the array answer alike until that byte is sent; so do two replays; so do parts from power-up on.
+  pub demand-3 : Demand3
+  pub replay-demand-3 : ReplayDemand3
+  pub power-demand-3 : PowerDemand3
+  -- Demand 3 is not empty, and it tells wrong parts.
+  pub occurs : Occurs
+  pub computed-form : ComputedForm
+  pub bent-steps : BentSteps
+  -- What every state from power-up on keeps, and that the operations hand out no other.
+  pub reachable-states : ReachableStates
+  pub handed-out : HandedOut
+  -- A part that passes refusals 4 and 5 passes them after any samples, and so after every accepted replay.
+  pub stays-fit : StaysFit
+  pub fit-again : FitAgain
+  -- The claims on the part, used at captures that were computed.
+  pub replayed-3 : Replayed3
+  -- A written image reads back the same: in every sound form of record, in Intel's, by the operations, through the door.
+  pub round-trips : RoundTrips
+  pub intel-trips : IntelTrips
+  pub write-then-read : WriteThenRead
+  pub door-trip : DoorTrip
+  -- What the program writes, and what it makes of what it wrote.
+  pub tidies : Tidies
+  pub tidy-twice : TidyTwice
+  -- How long texts are, and which room is enough.
+  pub lengths : Lengths
+  pub room-enough : RoomEnough
+  -- The claims on images, used at the image that the paper shows.
+  pub paper : Paper
+  -- For each public operation and every input there is only one possible reply.
+  pub one-reply : OneReply
+  pub one-at : OneAt
+  -- P1 to P11.
+  pub bench-cases : BenchCases
