@@ -1,16 +1,17 @@
 -- The claims on the part, each of exactly the type that specs/ names. No axiom is used.
 use Rattle.demand2.proofs.Demand2.{demand-2}
 use Rattle.demand2.proofs.Cut.{cut-joined}
-use Rattle.demand3.proofs.Demand3.{two-parts, same-state}
+use Rattle.demand3.proofs.Demand3.{two-parts}
+use Rattle.demand3.proofs.Asked.{same-state}
 use Rattle.demand3_runs.proofs.Witness.{occurs}
 use Rattle.ranges.proofs.InRange.{run-fit}
 use Rattle.reachable.proofs.Reachable.{power-reachable, reachable-on, reachable-keeps}
 use Rattle.reachable.proofs.Holds.{reachable-holds}
 use Rattle.chip_claims.specs.Demand3.{Demand3, ReplayDemand3, PowerDemand3, ComputedForm}
 use Rattle.chip_claims.specs.States.{ReachableStates, HandedOut, StaysFit, FitAgain, CutAnywhere}
-use Rattle.chip_claims.specs.Runs.{Replayed3}
+use Rattle.chip_claims.specs.AtRuns.{AtRuns}
 use Rattle.chip_claims.proofs.Derived.{replay-from, power-from, form-from, handed-from, fit-from}
-use Rattle.chip_claims.proofs.Runs.{runs-from}
+use Rattle.chip_claims.proofs.AtRuns.{runs-from}
 
 -- Demand 3.
 pub demand-3 : Demand3
@@ -50,6 +51,6 @@ pub cut-anywhere : CutAnywhere
 cut-anywhere = record { joined = cut-joined demand-2 }
 
 -- All of it at captures that were computed.
-pub replayed-3 : Replayed3
-replayed-3 =
+pub at-runs : AtRuns
+at-runs =
     runs-from occurs replay-demand-3 power-demand-3 computed-form handed-out fit-again cut-anywhere

@@ -54,7 +54,8 @@ pub power-from : Demand3 → ReachableStates → PowerDemand3
 power-from d3 states =
     record {
       alike = λ a p ys es ls r but.
-          let k = states .keeps p r .whole in
+          let kept : Keeps (p .state) = states .keeps p r in
+          let k = kept .whole in
           d3 .alike a (p .state) (p .array) ys es ls (record { bytes = k .bytes; marks = k .marks }) but;
     }
 

@@ -1,3 +1,3 @@
+pub mod AtRuns
 pub mod Derived
-pub mod Runs
 pub mod Chip

@@ -1,3 +1,3 @@
 pub mod Demand3
 pub mod States
-pub mod Runs
+pub mod AtRuns

@@ -1,4 +1,5 @@
 -- Demand 1 and the one reply at inputs. Each law rests on the claims that it names.
+use Prim.Native.Nat.{ℕ}
 use mathlib.Core.List.{List, [], _∷_}
 use mathlib.Core.Path.{_≡_, refl, sym}
 use lib.Dec.{leb}
@@ -16,6 +17,7 @@ use Rattle.intel.specs.Intel.{intel}
 use Rattle.image.specs.Promises.{largestSize, imageBy, sized, imageOf, writeVerdict}
 use Rattle.texts.specs.Numbers.{decimalOf}
 use Rattle.texts.specs.Refusal.{refusalLine}
+use Rattle.power.specs.declared.Replayed.{Replayed}
 use Rattle.runs.proofs.Opened.{opened}
 use Rattle.claims.specs.Demand1.{Demand1}
 use Rattle.claims.specs.OneReply.{OneReply}
@@ -83,8 +85,8 @@ one-from o =
           (record { reply = sym no-part; state = rw no-part });
       size = λ r x. o .size 4324 r Unknown x (record { said = refl });
       replay = λ r array′ row′ x.
-          o .replay fresh (1 ∷ 100001 ∷ []) (0 ∷ 0 ∷ []) ones rows (r, array′, row′)
-          (record { reply = Refused 9 1; state = fresh }, ones, rows) x
+          let some : Replayed × List ℕ × List ℕ = (r, array′, row′) in
+          o .replay fresh (1 ∷ 100001 ∷ []) (0 ∷ 0 ∷ []) ones rows some (record { reply = Refused 9 1; state = fresh }, ones, rows) x
           (record { reply = sym too-long; state = rw too-long; kept = rw too-long; said = rw too-long });
       read-image = λ r array′ x.
           o .read-image smallSize [] ones (r, array′) (Refused 17 0, ones) x (record { reply = rw no-text; kept = rw no-text });

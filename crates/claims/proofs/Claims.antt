@@ -2,8 +2,8 @@
 use Rattle.demand2.proofs.Demand2.{demand-2}
 use Rattle.demand3_runs.proofs.Witness.{occurs}
 use Rattle.bent_steps.proofs.Bends.{bent-steps}
-use Rattle.chip_claims.proofs.Chip.{demand-3, replay-demand-3, power-demand-3, computed-form, reachable-states, handed-out, stays-fit, fit-again, cut-anywhere, replayed-3}
-use Rattle.image_claims.proofs.Images.{round-trips, intel-trips, lengths, write-then-read, door-trip, tidies, tidy-twice, room-enough, paper}
+use Rattle.chip_claims.proofs.Chip.{demand-3, replay-demand-3, power-demand-3, computed-form, reachable-states, handed-out, stays-fit, fit-again, cut-anywhere, at-runs}
+use Rattle.image_claims.proofs.Images.{round-trips, intel-trips, lengths, write-then-read, door-trip, tidies, tidy-twice, room-enough, at-paper}
 use Rattle.claims.specs.AtInputs.{RefusedAt, OneAt}
 use Rattle.claims.specs.Claims.{Claims}
 use Rattle.claims.proofs.Demand1.{demand-1}
@@ -37,7 +37,7 @@ claims =
       handed-out = handed-out;
       stays-fit = stays-fit;
       fit-again = fit-again;
-      replayed-3 = replayed-3;
+      at-runs = at-runs;
       round-trips = round-trips;
       intel-trips = intel-trips;
       write-then-read = write-then-read;
@@ -46,7 +46,7 @@ claims =
       tidy-twice = tidy-twice;
       lengths = lengths;
       room-enough = room-enough;
-      paper = paper;
+      at-paper = at-paper;
       one-reply = one-reply;
       one-at = one-at;
       bench-cases = bench-cases;

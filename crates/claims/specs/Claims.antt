@@ -5,9 +5,9 @@ use Rattle.demand3_runs.specs.Occurs.{Occurs}
 use Rattle.bent_steps.specs.Bent.{BentSteps}
 use Rattle.chip_claims.specs.Demand3.{Demand3, ReplayDemand3, PowerDemand3, ComputedForm}
 use Rattle.chip_claims.specs.States.{ReachableStates, HandedOut, StaysFit, FitAgain, CutAnywhere}
-use Rattle.chip_claims.specs.Runs.{Replayed3}
+use Rattle.chip_claims.specs.AtRuns.{AtRuns}
 use Rattle.image_claims.specs.Images.{RoundTrips, IntelTrips, Lengths, WriteThenRead, DoorTrip, Tidies, TidyTwice, RoomEnough}
-use Rattle.image_claims.specs.Paper.{Paper}
+use Rattle.image_claims.specs.AtPaper.{AtPaper}
 use Rattle.claims.specs.Demand1.{Demand1}
 use Rattle.claims.specs.OneReply.{OneReply}
 use Rattle.claims.specs.AtInputs.{RefusedAt, OneAt}
@@ -36,7 +36,7 @@ pub record Claims : Type 0 where
   pub stays-fit : StaysFit
   pub fit-again : FitAgain
   -- The claims on the part, used at captures that were computed.
-  pub replayed-3 : Replayed3
+  pub at-runs : AtRuns
   -- A written image reads back the same: in every sound form of record, in Intel's, by the operations, through the door.
   pub round-trips : RoundTrips
   pub intel-trips : IntelTrips
@@ -49,7 +49,7 @@ pub record Claims : Type 0 where
   pub lengths : Lengths
   pub room-enough : RoomEnough
   -- The claims on images, used at the image that the paper shows.
-  pub paper : Paper
+  pub at-paper : AtPaper
   -- For each public operation and every input there is only one possible reply.
   pub one-reply : OneReply
   pub one-at : OneAt

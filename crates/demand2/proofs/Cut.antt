@@ -12,9 +12,9 @@ use Rattle.ground.specs.Verdict.{accepted}
 use Rattle.refusals.specs.Refusals.{judgedOf}
 use Rattle.ground.specs.declared.Reply.the-variants.{Accepted}
 use Rattle.power.specs.declared.Replayed.{Replayed}
-use Rattle.sample.specs.Run.{Part}
+use Rattle.sample.specs.Run.{Part, runOf}
 use Rattle.twin.specs.Promises.{Replays}
-use Rattle.demand2.specs.Demand2.{Accepts, Joined, Demand2}
+use Rattle.demand2.specs.Demand2.{Accepts, ByRules, Joined, Demand2}
 use Rattle.demand2.proofs.Judged.{judged-passed}
 
 module _ (d : Demand2) (s : State) (es ls array row row₁ row₂ : List ℕ) (k m : ℕ) (r r₁ r₂ : Replayed)
@@ -36,11 +36,14 @@ module _ (d : Demand2) (s : State) (es ls array row row₁ row₂ : List ℕ) (k
       let most : k + m ≤ mostSamples = omega (arith, c .levels, few) in
       let w : judgedOf s (take k es ++ drop k es) (take k ls ++ drop k ls) array row ≡ accepted (k + m) = rw (te, tl) (x .judged) in
       let q = d .pieces (take k es) (take k ls) (drop k es) (drop k ls) in
-      let t = q .split p row row₁ row₂ (k + m) (le ∙ sym ll) w (a ∙ sym ll) (b ∙ sym dl) in
+      let t : (judgedOf s (take k es) (take k ls) array row₁ ≡ accepted (length (take k ls)))
+      × (judgedOf (runOf (take k es) (take k ls) p .state) (drop k es) (drop k ls) (runOf (take k es) (take k ls) p .array) row₂
+      ≡ accepted (length (drop k ls)))
+      = q .split p row row₁ row₂ (k + m) (le ∙ sym ll) w (a ∙ sym ll) (b ∙ sym dl) in
       let x₁ : Accepts s (take k es) (take k ls) array row₁ k r₁ array₁ said₁ =
       record { judged = t .0 ∙ ap accepted ll; replays = y }
       in
-      let u = d .whole s (take k es) (take k ls) array row₁ k r₁ array₁ said₁ x₁ in
+      let u : ByRules s (take k es) (take k ls) array row₁ k r₁ array₁ said₁ = d .whole s (take k es) (take k ls) array row₁ k r₁ array₁ said₁ x₁ in
       let x₂ : Accepts (r₁ .state) (drop k es) (drop k ls) array₁ row₂ m r₂ array₂ said₂ =
       record { judged = rw (u .runs .state, u .runs .kept) (t .1 ∙ ap accepted dl); replays = z }
       in

@@ -17,7 +17,7 @@ use Rattle.levels.specs.Level.{answerOf}
 use Rattle.sample.specs.Sample.{stepOf, arrayOf}
 use Rattle.sample.specs.Run.{Part, partStep, runOf, answersOf}
 use Rattle.demand3.specs.Sending.{Sent, nothing, sentOf}
-use Rattle.demand3.specs.Differ.{never, sample, reaches, firstReach, firstDiff, fetches, covers, firstCover, fetchesNone, EqualBut, FullLoad, sentAfter, SplitAt, Alike, Unfetched, Covered, TwoParts, SameButOut}
+use Rattle.demand3.specs.Differ.{never, sample, reaches, firstReach, firstDiff, fetches, covers, firstCover, fetchesNone, EqualBut, FullLoad, sentAfter, SplitAt, Alike, Unfetched, Covered, TwoParts}
 use Rattle.demand3.proofs.Sent.TwoArrays.{arrays-kept, arrays-equal, array-silent, whole-kept}
 use Rattle.demand3.proofs.Sent.OneSample.{partOf, Beside, equal}
 use Rattle.demand3.proofs.Sent.Reached.{same-but-out, beside-answers, beside-line, beside-silenced, beside-equal, beside-step}
@@ -221,22 +221,6 @@ module _ {a : ℕ} {es ls : List ℕ} {p q : Part} where
       let d : j ≡ k = sym b ∙ cc in
       rw d at c
   covered-of k f (uncovered r) = absurd (let z : _≡_ {A = ℕ} 0 1 = cc in omega arith)
-
--- Two states that are the same in all but the byte being sent, and in it too, are one.
-pub same-state : (s t : State) → SameButOut s t → s .device .talk .out ≡ t .device .talk .out → s ≡ t
-same-state s t h e = λ i.
-    record {
-      chip = h .chip i;
-      timers = h .timers i;
-      wire = h .wire i;
-      device =
-          record {
-            talk = record { phase = h .phase i; high = h .high i; out = e i; own = h .own i };
-            counter = h .counter i;
-            control = h .control i;
-          };
-      load = h .load i;
-    }
 
 -- Two parts in one state, their arrays equal but for an address, given the same samples: demand 3 holds of them.
 pub two-parts : (a : ℕ) (s : State) (xs ys es ls : List ℕ) → FullLoad s → EqualBut a xs ys

@@ -1,2 +1,3 @@
+pub mod Asked
 pub mod Demand3
 pub mod Sent

@@ -1,13 +1,13 @@
 -- The form of demand 3 that computes follows from demand 3: for the real step it gives true wherever demand 3 holds.
 -- Assumes nothing.
-use Prim.Native.Nat.{ℕ, suc, _+_}
+use Prim.Native.Nat.{ℕ, _+_}
 use mathlib.Core.Bool.{true}
 use mathlib.Core.List.{List, [], _∷_}
 use mathlib.Core.Path.{_≡_, refl}
-use native.Mathlib.Omega.{arith}
 use borrow.Author.Tests.{eq-eqb}
 use Rattle.sample.specs.Run.{Part, partStep, runOf, answersOf}
 use Rattle.demand3.specs.Differ.{When, never, sample, firstDiff, firstCover, Covered, TwoParts}
+use Rattle.demand3.proofs.Asked.{right-after}
 use Rattle.demand3_runs.specs.Under.{arrayUnder, answersUnder, sameWhen, coveredUnder, holdsFor}
 
 -- Under the real step the array after the rows is that of the sheet.
@@ -37,7 +37,7 @@ module _ (a : ℕ) (es ls : List ℕ) (p q : Part) where
   covered-real : (w : When) → ((k : ℕ) → w ≡ sample k → Covered k es ls p q) → coveredUnder w partStep es ls p q ≡ true
   covered-real never h = refl
   covered-real (sample k) h =
-      let c = h k refl in simp (array-real, answers-real, c .later (suc k) (omega arith), c .answers, diff-same)
+      let c = h k refl in simp (array-real, answers-real, right-after k es ls p q c, c .answers, diff-same)
 
   -- Where demand 3 holds, its form that computes gives true for the real step.
   pub real-holds : TwoParts a es ls p q → holdsFor partStep a es ls p q ≡ true

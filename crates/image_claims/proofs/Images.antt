@@ -9,11 +9,11 @@ use Rattle.round_trip.proofs.RoundTrip.{round-trip}
 use Rattle.intel_trip.proofs.IntelSound.{intel-sound}
 use Rattle.image_cases.proofs.ImageCases.{p10}
 use Rattle.image_claims.specs.Images.{RoundTrips, IntelTrips, Lengths, WriteThenRead, DoorTrip, Tidies, TidyTwice, RoomEnough}
-use Rattle.image_claims.specs.Paper.{Paper}
+use Rattle.image_claims.specs.AtPaper.{AtPaper}
 use Rattle.image_claims.proofs.Trips.{intel-from}
 use Rattle.image_claims.proofs.Operations.{write-from, door-from}
 use Rattle.image_claims.proofs.Tidied.{tidies-from, twice-from}
-use Rattle.image_claims.proofs.Paper.{room-from, paper-from}
+use Rattle.image_claims.proofs.AtPaper.{room-from, paper-from}
 
 -- The round trip in every sound form of record.
 pub round-trips : RoundTrips
@@ -56,5 +56,5 @@ pub room-enough : RoomEnough
 room-enough = room-from lengths
 
 -- All of it at the paper's image.
-pub paper : Paper
-paper = paper-from p10 intel-trips door-trip tidies tidy-twice room-enough
+pub at-paper : AtPaper
+at-paper = paper-from p10 intel-trips door-trip tidies tidy-twice room-enough

@@ -1,5 +1,5 @@
+pub mod AtPaper
 pub mod Operations
 pub mod Tidied
-pub mod Paper
 pub mod Trips
 pub mod Images

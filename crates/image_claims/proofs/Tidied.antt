@@ -60,7 +60,7 @@ module _ (trips : IntelTrips) (n : ℕ) (h : n * rowSize ≤ largestSize) where
 
 -- The habits at every size that a part can have.
 pub tidies-from : IntelTrips → Tidies
-tidies-from trips = record { habits = tidied trips }
+tidies-from trips = record { habits = λ n h. tidied trips n (omega arith) }
 
 -- What starts a buffer is what is taken of it.
 starts-text : (text out : List ℕ) (r : ℕ) (out′ : List ℕ) → Starts text out r out′ → take r out′ ≡ text
@@ -73,5 +73,5 @@ twice-from tidies =
       again = λ n text array out out′ out₂ out₂′ r r₂ h t x y.
           let a = starts-text (shownOf (n * rowSize) text) out r out′ x in
           let b = starts-text (shownOf (n * rowSize) (take r out′)) out₂ r₂ out₂′ y in
-          b ∙ ap (shownOf (n * rowSize)) a ∙ tidies .habits n h .again text array t ∙ sym a;
+          b ∙ ap (shownOf (n * rowSize)) a ∙ tidies .habits n (omega arith) .again text array t ∙ sym a;
     }

@@ -1,3 +1,3 @@
 pub mod Trip
 pub mod Images
-pub mod Paper
+pub mod AtPaper

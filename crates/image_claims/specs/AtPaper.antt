@@ -13,7 +13,7 @@ use Rattle.round_trip.specs.RoundTrip.{Fixed}
 use Rattle.image_cases.specs.ImageCases.{paperArray, paperText}
 
 -- The paper's image through the door and back, its text in the fixed form, and the program's work on it, once and twice (Bench cases, P10).
-pub record Paper : Type 0 where
+pub record AtPaper : Type 0 where
   pub door : (out numbers out′ numbers′ old numbers₂ array′ numbers₂′ : List ℕ) (r r₂ : ℕ) → 11276 ≤ length out
       → length numbers ≡ 2 → WritesThrough smallSize paperArray out numbers r out′ numbers′
       → length old ≡ smallSize → length numbers₂ ≡ 2 → ReadsThrough smallSize (take 56 out′) old numbers₂ r₂ array′ numbers₂′

@@ -4,16 +4,18 @@ use Prim.Native.Nat.{ℕ}
 use mathlib.Core.Bool.{true, false}
 use mathlib.Core.List.{List}
 use mathlib.Core.Path.{_≡_}
-use lib.ListN.{length, take, drop, replicate}
+use lib.ListN.{length, getD, take, drop, replicate}
 use Rattle.power.specs.declared.Replayed.{Replayed}
 use Rattle.sample.specs.Run.{Part, partStep}
 use Rattle.twin.specs.Promises.{Replays}
 use Rattle.waves.specs.Waves.{Capture}
+use Rattle.runs.specs.Runs.{partAfter}
 use Rattle.ranges.specs.Fit.{Fit}
 use Rattle.reachable.specs.Reachable.{Lowers}
 use Rattle.demand2.specs.Demand2.{Joined}
-use Rattle.demand3.specs.Differ.{SplitAt, TwoParts}
-use Rattle.demand3_runs.specs.Occurs.{spot, left, right, readIt, setWrite, cutRead, holdsOf}
+use Rattle.demand3.specs.Sending.{bitFrom}
+use Rattle.demand3.specs.Differ.{SplitAt, Unfetched, TwoParts}
+use Rattle.demand3_runs.specs.Occurs.{spot, left, right, readIt, unsetWrite, setWrite, cutRead, holdsOf}
 use Rattle.chip_claims.specs.Demand3.{over}
 
 -- An answer row for a capture, before the replay (What goes in and what comes out).
@@ -26,7 +28,7 @@ Gives c p r array′ row′ = Replays (p .state) (c .times) (c .levels) (p .arra
 
 -- Replays of the read differ first at sample 126, in SDA alone; replays of the write come to the same; the read in two pieces is the read; from
 -- power-up the two parts are alike; and while the read is cut off after its third bit the part holds SDA low, for it sends a 0 (demand 3).
-pub record Replayed3 : Type 0 where
+pub record AtRuns : Type 0 where
   pub read : (r q : Replayed) (xs ys said said₂ : List ℕ) → Gives readIt left r xs said → Gives readIt right q ys said₂
       → SplitAt 126 said said₂
   pub write : (r q : Replayed) (xs ys said said₂ : List ℕ) → Gives setWrite left r xs said → Gives setWrite right q ys said₂
@@ -39,3 +41,7 @@ pub record Replayed3 : Type 0 where
   pub again : (r : Replayed) (xs said : List ℕ) → Gives readIt left r xs said → Fit (over (r .state) xs)
   pub low : (r : Replayed) (xs said : List ℕ) → Gives cutRead left r xs said → r .state .device .talk .own ≡ false → Lowers (r .state)
   pub form : holdsOf partStep left right readIt ≡ true
+  -- before the fetch the two are in one state; of the byte fetched the third bit is out; a byte that was withheld leaves the array's
+  pub until : Unfetched spot (take 100 (readIt .times)) (take 100 (readIt .levels)) left right
+  pub out : partAfter cutRead left .state .device .talk .own ≡ bitFrom 2 0x4C
+  pub stays : getD (partAfter unsetWrite left .array) spot 0 ≡ 0x4C

@@ -1,6 +1,8 @@
 -- The claims on the part at captures that were computed. Each law rests on the claims that it names.
+use mathlib.Core.Bool.{true}
 use mathlib.Core.List.{List}
 use mathlib.Core.Path.{_≡_, refl, _∙_}
+use lib.ListN.{take}
 use Rattle.ground.specs.Numbers.{x4323}
 use Rattle.ground.specs.Kind.{kindOf}
 use Rattle.ground.specs.Verdict.{meant}
@@ -10,13 +12,15 @@ use Rattle.power.specs.Power.{poweredUp}
 use Rattle.power.specs.declared.Replayed.{Replayed}
 use Rattle.waves.specs.Waves.{Capture}
 use Rattle.runs.specs.Runs.{Taken}
+use Rattle.runs.proofs.Opened.{opened}
 use Rattle.reachable.specs.Reachable.{Reachable}
 use Rattle.demand2.specs.Demand2.{Accepts}
-use Rattle.demand3.specs.Differ.{FullLoad}
-use Rattle.demand3_runs.specs.Occurs.{spot, left, right, readIt, setWrite, cutRead, Occurs}
+use Rattle.demand3.specs.Sending.{nothing, sends, sentOf}
+use Rattle.demand3.specs.Differ.{fetchesNone, FullLoad, sentAfter}
+use Rattle.demand3_runs.specs.Occurs.{spot, left, right, readIt, unsetWrite, setWrite, cutRead, Occurs}
 use Rattle.chip_claims.specs.Demand3.{Compared, ReplayDemand3, PowerDemand3, ComputedForm}
 use Rattle.chip_claims.specs.States.{HandedOut, FitAgain, CutAnywhere}
-use Rattle.chip_claims.specs.Runs.{blank, Gives, Replayed3}
+use Rattle.chip_claims.specs.AtRuns.{blank, Gives, AtRuns}
 
 -- The load at power-up is whole.
 left-load : FullLoad (left .state)
@@ -39,8 +43,18 @@ compares d o c t r q xs ys said said₂ x y =
     d .compared spot (left .state) (left .array) (right .array) (c .times) (c .levels) (blank c) (blank c) _ _ r q xs ys said said₂
     left-load (o .arrays) (record { judged = t; replays = x }) (record { judged = v ∙ t; replays = y })
 
+-- The first 100 samples of the read fetch nothing from the address.
+not-fetched : fetchesNone spot (take 100 (readIt .times)) (take 100 (readIt .levels)) left ≡ true
+unfolding opened sentOf
+not-fetched = refl
+
+-- After the read that is cut off the third bit of the byte is out.
+third-bit : sentAfter (cutRead .times) (cutRead .levels) left nothing ≡ sends spot 0x4C 2
+unfolding opened sentOf
+third-bit = refl
+
 -- The claims at the runs.
-pub runs-from : Occurs → ReplayDemand3 → PowerDemand3 → ComputedForm → HandedOut → FitAgain → CutAnywhere → Replayed3
+pub runs-from : Occurs → ReplayDemand3 → PowerDemand3 → ComputedForm → HandedOut → FitAgain → CutAnywhere → AtRuns
 runs-from o replay3 power3 form handed fit cut =
     record {
       read = λ r q xs ys said said₂ x y. compares replay3 o readIt (o .read .taken) r q xs ys said said₂ x y .reached 126 (o .read .reached);
@@ -55,5 +69,13 @@ runs-from o replay3 power3 form handed fit cut =
           (record { judged = o .read .taken; replays = x });
       low = λ r xs said x.
           handed .replay left (cutRead .times) (cutRead .levels) (blank cutRead) r xs said (left-reachable handed o) x .0 .own;
+      until =
+          power3 .alike spot left (right .array) (readIt .times) (readIt .levels) (left-reachable handed o) (o .arrays) .until 100 not-fetched;
+      out =
+          power3 .alike spot left (right .array) (cutRead .times) (cutRead .levels) (left-reachable handed o) (o .arrays) .out left spot 0x4C
+          2 third-bit;
+      stays =
+          power3 .alike spot left (right .array) (unsetWrite .times) (unsetWrite .levels) (left-reachable handed o) (o .arrays) .uncovered
+          (o .covering .0);
       form = form .holds spot (left .state) (left .array) (right .array) (readIt .times) (readIt .levels) left-load (o .arrays);
     }
