@@ -11,7 +11,8 @@ use Rattle.image_cases.proofs.ImageCases.{p10}
 use Rattle.image_claims.specs.Images.{RoundTrips, IntelTrips, Lengths, WriteThenRead, DoorTrip, Tidies, TidyTwice, RoomEnough}
 use Rattle.image_claims.specs.AtPaper.{AtPaper}
 use Rattle.image_claims.proofs.Trips.{intel-from}
-use Rattle.image_claims.proofs.Operations.{write-from, door-from}
+use Rattle.image_claims.proofs.Door.{door-from}
+use Rattle.image_claims.proofs.Operations.{write-from}
 use Rattle.image_claims.proofs.Tidied.{tidies-from, twice-from}
 use Rattle.image_claims.proofs.AtPaper.{room-from, paper-from}
 

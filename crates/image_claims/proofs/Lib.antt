@@ -1,4 +1,5 @@
 pub mod AtPaper
+pub mod Door
 pub mod Operations
 pub mod Tidied
 pub mod Trips

@@ -3,27 +3,23 @@
 -- promises and on the claims that it names.
 use Prim.Native.Nat.{ℕ, _*_, _≤_}
 use mathlib.Core.Bool.{Bool, true, false, true≢false}
-use mathlib.Core.List.{List, [], _∷_, _++_}
+use mathlib.Core.List.{List, _++_}
 use mathlib.Core.Path.{_≡_, refl, ap, sym, _∙_}
 use lib.Dec.{leb}
 use lib.ListN.{length, take, drop}
 use lib.Seq.{take-at}
 use borrow.Author.Tests.{eq-eqb, le-leb}
-use Rattle.ground.specs.Numbers.{smallSize}
-use Rattle.ground.specs.Verdict.{Verdict, accepted, refused, meant}
+use Rattle.ground.specs.Verdict.{accepted, meant}
 use Rattle.ground.specs.declared.Reply.{Reply}
-use Rattle.ground.specs.declared.Reply.the-variants.{Accepted, Refused}
 use Rattle.forms.specs.Form.{rowSize}
 use Rattle.forms.specs.Reading.{taken}
 use Rattle.forms.specs.Writing.{imageText, lengthOf, mostLength}
 use Rattle.intel.specs.Intel.{intel}
-use Rattle.reader.specs.Answers.{verdictOf, arrayAfter}
-use Rattle.image.specs.Promises.{largestSize, sized, imageOf, ReadsImage, writeBy, writeVerdict, outAfter, WritesImage}
+use Rattle.image.specs.Promises.{largestSize, sized, imageOf, ReadsImage, writeBy, writeVerdict, WritesImage}
 use Rattle.image.proofs.Sizes.{size-of}
-use Rattle.telling.specs.Told.{ReadsThrough, WritesThrough}
 use Rattle.round_trip.specs.Words.{allBytes, Rows}
 use Rattle.image_claims.specs.Trip.{ReadBack}
-use Rattle.image_claims.specs.Images.{IntelTrips, Lengths, WriteThenRead, DoorTrip}
+use Rattle.image_claims.specs.Images.{IntelTrips, Lengths, WriteThenRead}
 
 -- A write is accepted only if its size is right, and then says its length.
 record Said (size : Bool) (long n : ℕ) : Type 0 where
@@ -82,37 +78,4 @@ write-from trips lengths =
           let s = written-size lengths size array out out′ r n w e in
           let g : imageOf intel size (take n out′) old ≡ taken array = rw t (image-gives trips k array old (s .0) (s .1) b o) in
           record { same = q .kept ∙ (rw g); reply = q .reply ∙ (rw (g, l)) };
-    }
-
--- The reply that says a verdict.
-abbrev replyOf : Verdict → Reply
-replyOf (accepted n) = Accepted n
-replyOf (refused k p) = Refused k p
-
--- It means that verdict.
-pub reply-means : (v : Verdict) → meant (replyOf v) ≡ v
-unfolding meant
-reply-means (accepted n) = refl
-reply-means (refused k p) = refl
-
--- Through the door at the X4323's size.
-pub door-from : WriteThenRead → DoorTrip
-door-from trip =
-    record {
-      back = λ array out numbers out′ numbers′ old numbers₂ array′ numbers₂′ r r₂ n b f w v o g q.
-          let d = eq-eqb (length numbers) 2 f in
-          let h = eq-eqb (length numbers₂) 2 g in
-          let text : List ℕ = take n out′ in
-          let reading = imageOf intel smallSize text old in
-          let x : WritesImage intel smallSize array out (Accepted n) out′ =
-          record { reply = reply-means (accepted n) ∙ sym v; said = w .said ∙ rw d }
-          in
-          let y : ReadsImage intel smallSize text old (replyOf (verdictOf reading (length text))) (arrayAfter reading old) =
-          record { reply = reply-means (verdictOf reading (length text)); kept = refl }
-          in
-          let z = trip .back 256 array out out′ old (arrayAfter reading old) (Accepted n) (replyOf (verdictOf reading (length text)))
-          n b x (reply-means (accepted n)) o y
-          in
-          let t : verdictOf reading (length text) ≡ accepted n = sym (reply-means (verdictOf reading (length text))) ∙ z .reply in
-          (q .kept ∙ rw h (z .same), w .reply ∙ rw (d, v), q .reply ∙ rw (h, t));
     }
