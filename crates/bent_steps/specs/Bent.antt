@@ -1,5 +1,6 @@
 -- Three steps that bend one rule each, and for each of them runs for which demand 3 fails and for which it still holds: demand 3
 -- tells a part that does these from one that does not (demand 3; document 01, Bytes on the wire; State and time, a byte being sent).
+-- For a person from the line: three chips that each break one rule, and the recordings that give them away.
 use Prim.Native.Nat.{ℕ, zero, suc, _+_, _-_, _*_, _/_, _%_, _^_}
 use mathlib.Core.Bool.{Bool, true, false}
 use mathlib.Core.List.{List}

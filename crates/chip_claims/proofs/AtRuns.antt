@@ -14,7 +14,6 @@ use Rattle.waves.specs.Waves.{Capture}
 use Rattle.runs.specs.Runs.{Taken}
 use Rattle.runs.proofs.Opened.{opened}
 use Rattle.reachable.specs.Reachable.{Reachable}
-use Rattle.demand2.specs.Demand2.{Accepts}
 use Rattle.demand3.specs.Sending.{nothing, sends, sentOf}
 use Rattle.demand3.specs.Differ.{fetchesNone, FullLoad, sentAfter}
 use Rattle.demand3_runs.specs.Occurs.{spot, left, right, readIt, unsetWrite, setWrite, cutRead, Occurs}

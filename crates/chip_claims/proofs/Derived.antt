@@ -5,16 +5,14 @@ use mathlib.Core.List.{List}
 use mathlib.Core.Path.{_≡_, refl, ap, sym, subst, _∙_}
 use lib.Dec.{leb}
 use Rattle.ground.specs.Numbers.{mostSelect}
-use Rattle.ground.specs.Kind.{kindOf, known}
+use Rattle.ground.specs.Kind.{known}
 use Rattle.ground.specs.Verdict.{Verdict, accepted, refused}
 use Rattle.ground.proofs.Verdicts.{apart}
-use Rattle.part.specs.declared.state.State.{State}
 use Rattle.refusals.specs.Refusals.{storable, powerBy, powerOf, judgedOf}
 use Rattle.refusals.proofs.Laws.{rows-equal}
-use Rattle.power.specs.declared.Replayed.{Replayed}
 use Rattle.power.specs.Power.{poweredUp}
 use Rattle.sample.specs.Run.{Part, runOf}
-use Rattle.twin.specs.Promises.{partAfter, Replays}
+use Rattle.twin.specs.Promises.{partAfter}
 use Rattle.ranges.specs.Fit.{Fit}
 use Rattle.reachable.specs.Reachable.{atPower, Reachable, Keeps}
 use Rattle.demand2.specs.Demand2.{Demand2}
@@ -40,6 +38,7 @@ replay-from d2 d3 =
             unreached = λ f.
                 let g = t .unreached f in
                 (u .said ∙ g .answers ∙ sym (v .said), rw (u .state, v .state) (g .states), rw (u .kept, v .kept) (g .arrays));
+            one = λ f e. d3 .one (r .state) (q .state) (rw (u .state, v .state) (t .unreached f .states)) e;
             covered = λ k f.
                 let g = t .covered k f in (
                   u .said ∙ g .answers ∙ sym (v .said),

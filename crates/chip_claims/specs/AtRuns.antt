@@ -1,5 +1,6 @@
 -- The claims of the part at captures that were computed: each is used there whole, on a capture of some hundred samples (demand 3; document 01,
 -- Bytes on the wire). The captures and the two parts are those of demand3_runs/specs/Occurs.
+-- For a person from the line: the promises tried on a read, on a write and on a read that is cut off.
 use Prim.Native.Nat.{ℕ}
 use mathlib.Core.Bool.{true, false}
 use mathlib.Core.List.{List}

@@ -34,6 +34,8 @@ pub record Compared (a : ℕ) (s : State) (xs ys es ls : List ℕ) (r q : Replay
   pub reached : (k : ℕ) → firstReach a 0 es ls (over s xs) (over s ys) nothing nothing ≡ sample k → SplitAt k said said₂
   pub unreached : firstReach a 0 es ls (over s xs) (over s ys) nothing nothing ≡ never
       → (said ≡ said₂) × SameButOut (r .state) (q .state) × EqualBut a xs′ ys′
+  pub one : firstReach a 0 es ls (over s xs) (over s ys) nothing nothing ≡ never
+      → r .state .device .talk .out ≡ q .state .device .talk .out → r .state ≡ q .state
   pub covered : (k : ℕ) → firstCover a 0 es ls (over s xs) ≡ sample k → (said ≡ said₂) × (r .state ≡ q .state) × (xs′ ≡ ys′)
 
 -- Demand 3 once more, of two outcomes of the operation: one state, arrays equal but for an address, the same rows. The verdict is the same for

@@ -1,6 +1,7 @@
 -- Demand 1 and the one reply, at inputs: each operation is given something that the table refuses, and what it then says and leaves is
 -- written out (document 01, Refusal numbers; Leaving no slack). Where a state is asked it is that of an X4323 at power-up, and the array
 -- is all FFh.
+-- For a person from the line: one bad input for each operation, and the answer you will read.
 use Prim.Native.Nat.{ℕ}
 use mathlib.Core.List.{List, [], _∷_, _++_}
 use mathlib.Core.Path.{_≡_}

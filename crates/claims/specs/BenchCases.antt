@@ -1,5 +1,6 @@
 -- The bench cases in one list (document 01, Bench cases): those of captures, said of a part that has just been powered up; those of the
 -- lock, said of every kind of part; those of images.
+-- For a person from the line: the eleven cases of the bench, as they stand on the sheet.
 use Rattle.ground.specs.Numbers.{x4323, x4325}
 use Rattle.ground.specs.declared.kinds.Kind.{Kind}
 use Rattle.run_cases.specs.RunCases.{P1, P5, P6, P7, P8, P9}

@@ -2,6 +2,8 @@
 -- outcome that keeps the operation's promise says these, and nothing has changed: a replay hands back the state given and leaves array and
 -- answer row as they were, a reading leaves the array, a writing the buffer; the program writes one line. A refused power-up hands back the
 -- state of part 4323, select 0, stored byte 00h. Through the door the two numbers of the reply row are that number and that place. What is lent for reading only (times, levels, text) no operation can change.
+-- For a person from the line: give it anything. What it cannot use it turns away with a number that says why and a place that says where, and
+-- everything you lent comes back as you lent it.
 use Prim.Native.Nat.{ℕ}
 use mathlib.Core.List.{List, [], _∷_, _++_}
 use mathlib.Core.Path.{_≡_}

@@ -2,6 +2,7 @@
 -- outcomes that both keep what the operation promises are one and the same: in the reply, in the state beside it, and
 -- in every lent row, array and buffer; through the door in the answer and the reply row too. That it is the right one, Demand1 and Demand2 say. The buffer that
 -- the program lends has room for the longest text, by its type.
+-- For a person from the line: ask the same thing twice and you get the same answer; nothing is left open.
 use Prim.Native.Nat.{ℕ}
 use mathlib.Core.List.{List}
 use mathlib.Core.Path.{_≡_}

@@ -7,16 +7,16 @@ use mathlib.Core.Bool.{Bool, true, false}
 use mathlib.Core.List.{List, [], _∷_, _++_, append-nil}
 use mathlib.Core.Path.{_≡_, refl, ap, sym, _∙_}
 use native.Mathlib.Omega.{arith}
-use lib.Dec.{eqb, leb}
+use lib.Dec.{leb}
 use lib.ListN.{length, getD, take, length-append}
-use borrow.Author.Tests.{eq-eqb, le-leb, eqb-true, leb-true}
+use borrow.Author.Tests.{eq-eqb, le-leb, leb-true}
 use Rattle.ground.specs.Numbers.{mostElapsed, mostLevel, mostSamples}
 use Rattle.ground.specs.Kind.{kindOf}
 use Rattle.part.specs.declared.state.State.{State}
 use Rattle.levels.specs.Level.{answerOf}
 use Rattle.ground.specs.Verdict.{Verdict, accepted, meant}
 use Rattle.limits.specs.Samples.{sampleBy, samplesOf}
-use Rattle.refusals.specs.Refusals.{judgedBy, judgedOf, inRange}
+use Rattle.refusals.specs.Refusals.{judgedOf}
 use Rattle.ground.specs.declared.Reply.the-variants.{Accepted}
 use Rattle.ground.proofs.Verdicts.{apart}
 use Rattle.refusals.proofs.Laws.{rows-equal}

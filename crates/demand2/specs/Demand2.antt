@@ -5,6 +5,8 @@
 -- other, state and array carried on, give what the whole gives: joined, their outcomes are one that keeps the promise
 -- for the whole, and there is only one such (OneReply). And an accepted capture can be cut anywhere: its first piece is
 -- accepted, and so is its second, from the state and the array that the first leaves.
+-- For a person from the line: what it answers to a recording is what the rules give, one sample after the other, and there is an answer for every
+-- sample. You may play the recording in pieces.
 use Prim.Native.Nat.{ℕ, _+_, _<_, _≤_}
 use mathlib.Core.List.{List, _++_}
 use mathlib.Core.Path.{_≡_}

@@ -1,5 +1,6 @@
 -- Demand 3 is not empty: runs that reach an unequal bit, that are covered before, and that do neither. Two X4323 of select 0,
 -- whose arrays of 4,096 bytes differ at one address in one bit (demand 3; document 01, State and time, a byte being sent).
+-- For a person from the line: recordings in which the two chips can be told apart, and such in which they cannot, with the sample at which it happens.
 use Prim.Native.Nat.{ℕ}
 use mathlib.Core.Bool.{Bool, true, false}
 use mathlib.Core.List.{List, [], _∷_, _++_}

@@ -1,17 +1,15 @@
 -- The claims on images at the paper's image, and the room that is enough. Each rests on the claims that it names.
-use Prim.Native.Nat.{ℕ, _≤_}
-use mathlib.Core.Bool.{true}
-use mathlib.Core.List.{List}
-use mathlib.Core.Path.{_≡_, refl, ap, sym, subst, _∙_}
+use Prim.Native.Nat.{_≤_}
+use mathlib.Core.Path.{_≡_, refl, ap, _∙_}
 use native.Mathlib.Omega.{arith}
 use lib.ListN.{length}
-use borrow.Author.Tests.{eq-eqb, le-leb}
+use borrow.Author.Tests.{le-leb}
 use Rattle.ground.specs.Numbers.{smallSize}
 use Rattle.ground.specs.Verdict.{accepted}
 use Rattle.forms.specs.Writing.{imageText, lengthOf}
 use Rattle.intel.specs.Intel.{intel}
 use Rattle.image.specs.Promises.{largestSize, sized, writeVerdict}
-use Rattle.round_trip.specs.Words.{Rows, allBytes}
+use Rattle.round_trip.specs.Words.{Rows}
 use Rattle.round_trip.specs.RoundTrip.{Fixed, Writers}
 use Rattle.image_cases.specs.ImageCases.{paperArray, paperText, P10}
 use Rattle.image_claims.specs.Images.{IntelTrips, Lengths, DoorTrip, Tidies, TidyTwice, RoomEnough}

@@ -15,10 +15,9 @@ use Rattle.forms.specs.Form.{rowSize}
 use Rattle.forms.specs.Reading.{taken}
 use Rattle.forms.specs.Writing.{imageText, lengthOf, mostLength}
 use Rattle.intel.specs.Intel.{intel}
-use Rattle.image.specs.Promises.{largestSize, sized, imageOf, ReadsImage, writeBy, writeVerdict, WritesImage}
+use Rattle.image.specs.Promises.{largestSize, sized, imageOf, writeBy, writeVerdict, WritesImage}
 use Rattle.image.proofs.Sizes.{size-of}
 use Rattle.round_trip.specs.Words.{allBytes, Rows}
-use Rattle.image_claims.specs.Trip.{ReadBack}
 use Rattle.image_claims.specs.Images.{IntelTrips, Lengths, WriteThenRead}
 
 -- A write is accepted only if its size is right, and then says its length.

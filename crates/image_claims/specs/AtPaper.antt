@@ -1,5 +1,6 @@
 -- The claims on images, at the image that the paper shows: each is used there whole, with nothing left to be asked (document 01, Image files;
 -- Bench cases, P10).
+-- For a person from the line: the promises tried on the image that is printed on the sheet.
 use Prim.Native.Nat.{ℕ, _≤_}
 use mathlib.Core.List.{List, [], _∷_}
 use mathlib.Core.Path.{_≡_}

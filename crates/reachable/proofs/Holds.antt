@@ -28,7 +28,7 @@ use Rattle.wire.specs.Sign.{allButOne, fallSignBy, fallSign, signBy, signOf, wi
 use Rattle.wire.specs.declared.Sign.{Sign}
 use Rattle.wire.specs.declared.Sign.the-variants.{Quiet, Start, Stop, Bit, Byte, Ninth}
 use Rattle.device.specs.Bytes.{takenOf, dataBy, byteIn, byteOf, keptBy, expectsData, keptOf}
-use Rattle.bits.specs.Bits.{bitIn, bitOf, answeredBy, ninthIn, ninthOf}
+use Rattle.bits.specs.Bits.{bitIn, bitOf, ninthIn, ninthOf}
 use Rattle.bits.proofs.Phases.{bit-stays, ninth-releases}
 use Rattle.ends.specs.Ends.{startedOf, stoppedOf, endedOf}
 use Rattle.levels.specs.Level.{sclOf, sdaOf, wpOf}
