@@ -7,7 +7,7 @@ use mathlib.Core.Bool.{Bool, true, false}
 use mathlib.Core.List.{List, [], _∷_, _++_, append-nil}
 use mathlib.Core.Path.{_≡_, refl, ap, sym, _∙_}
 use native.Mathlib.Omega.{arith}
-use lib.Dec.{eqb, leb}
+use lib.Dec.{leb}
 use lib.ListN.{length, getD, take, length-append}
 use borrow.Author.Tests.{eq-eqb, le-leb, eqb-true, leb-true}
 use Rattle.ground.specs.Numbers.{mostElapsed, mostLevel, mostSamples}
@@ -16,15 +16,14 @@ use Rattle.part.specs.declared.state.State.{State}
 use Rattle.levels.specs.Level.{answerOf}
 use Rattle.ground.specs.Verdict.{Verdict, accepted, meant}
 use Rattle.limits.specs.Samples.{sampleBy, samplesOf}
-use Rattle.refusals.specs.Refusals.{judgedBy, judgedOf, inRange}
+use Rattle.refusals.specs.Refusals.{judgedOf}
 use Rattle.ground.specs.declared.Reply.the-variants.{Accepted}
-use Rattle.ground.proofs.Verdicts.{apart}
-use Rattle.refusals.proofs.Laws.{rows-equal}
+use Rattle.ground.proofs.Verdicts.{apart, meant-one}
+use Rattle.refusals.proofs.Laws.{judged-passed, rows-equal}
 use Rattle.power.specs.declared.Replayed.{Replayed}
 use Rattle.sample.specs.Run.{Part, partStep, runOf, answersOf}
 use Rattle.twin.specs.Promises.{Replays, Runs}
 use Rattle.demand2.specs.Demand2.{ByRules, Pieces, Counted, Demand2}
-use Rattle.demand2.proofs.Replies.{meant-one}
 use Rattle.ranges.specs.Fit.{Fit}
 use Rattle.ranges.proofs.InRange.{run-fit}
 
@@ -115,45 +114,12 @@ samples-second (x ∷ es) (l ∷ ls) es₂ ls₂ i j m u v e f h =
     samples-second es ls es₂ ls₂ (i + 1) j m u v (omega arith) f
     (sample-past (leb x mostElapsed) (leb l mostLevel) i m (samplesOf (i + 1) (es ++ es₂) (ls ++ ls₂) u) h)
 
--- What else an accepted replay has passed, beside the equal lengths, and what its samples said.
-record Passed (state array few : Bool) (v : Verdict) (n : ℕ) : Type 0 where
-  state-good : state ≡ true
-  array-good : array ≡ true
-  few-enough : few ≡ true
-  samples : v ≡ accepted n
-
--- So says the table.
-passed : (a b d e f : Bool) (v : Verdict) (n : ℕ) → judgedBy a b d e f v ≡ accepted n → Passed a b e v n
-passed false b d e f v n h = absurd (apart 4 0 n h)
-passed true false d e f v n h = absurd (apart 5 0 n h)
-passed true true false e f v n h = absurd (apart 6 0 n h)
-passed true true true false f v n h = absurd (apart 7 0 n h)
-passed true true true true false v n h = absurd (apart 8 0 n h)
-passed true true true true true v n h =
-    record { state-good = refl; array-good = refl; few-enough = refl; samples = h }
-
 module _ (s : State) (es ls array row : List ℕ) (n : ℕ) (j : judgedOf s es ls array row ≡ accepted n) where
-  -- So says the verdict.
-  judged-passed :
-      Passed (inRange s) (eqb (length array) (kindOf (s .chip .part) .size)) (leb (length ls) mostSamples)
-      (samplesOf 0 es ls (accepted (length ls))) n
-  unfolding judgedOf
-  judged-passed =
-      passed
-      (inRange s)
-      (eqb (length array) (kindOf (s .chip .part) .size))
-      (eqb (length es) (length ls))
-      (leb (length ls) mostSamples)
-      (eqb (length row) (length ls))
-      (samplesOf 0 es ls (accepted (length ls)))
-      n
-      j
-
   -- The count is the length of the rows.
   pub counted : Counted es ls row n
   counted =
       let t = rows-equal s es ls array row n j in
-      let x = judged-passed .samples in
+      let x = judged-passed s es ls array row n j .samples in
       let c : length ls ≡ n = cc (samples-through es ls 0 (length ls) n (accepted (length ls)) (t .0) x 0) in
       record { elapsed = t .0 ∙ c; levels = c; answers = t .1 ∙ c }
 
