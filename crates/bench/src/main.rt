@@ -2,11 +2,17 @@
 use form::headers;
 use form::headers::Header;
 use form::words;
+use libc::STDIN_FILENO;
 use libc::STDOUT_FILENO;
-use reading::rooms;
-use texts::cases::Lengths;
+use rooms::Lengths;
 use trials::cases;
 use trials::cases::Said;
+
+// Fills a row from the input, and answers whether there was enough of it.
+fn fill(row: &mut [u8]) -> bool {
+    let got = io::read_full(STDIN_FILENO, row);
+    got == row.len()
+}
 
 fn write(row: &[u8]) -> bool {
     io::write_all(STDOUT_FILENO, row)
@@ -25,7 +31,8 @@ fn write_reply(said: Said, array: &[u8], answers: &[u8]) -> bool {
     false
 }
 
-// Reads the rows of a case, each lent at just its length, and writes the reply.
+// Reads the rows of a case, each lent at just its length and in the order in which the input has them,
+// and writes the reply.
 fn reply(
     header: Header,
     array: &mut [u8],
@@ -34,9 +41,14 @@ fn reply(
     levels: &mut [u8],
     answers: &mut [u8],
 ) -> bool {
-    if reading::read_rows(array, raw, elapsed, levels) {
-        let said = cases::answer(header, elapsed, levels, array, answers);
-        return write_reply(said, array, answers);
+    if fill(array) {
+        if fill(raw) {
+            if fill(levels) {
+                words::decode(raw, elapsed);
+                let said = cases::answer(header, elapsed, levels, array, answers);
+                return write_reply(said, array, answers);
+            }
+        }
     }
     false
 }
@@ -50,18 +62,7 @@ fn lend(
     levels: &mut [u8],
     answers: &mut [u8],
 ) -> bool {
-    let array_length = header.array as usize;
-    let elapsed_length = header.elapsed as usize;
-    let levels_length = header.levels as usize;
-    let answers_length = header.answers as usize;
-    let raw_length = elapsed_length * words::WORD;
-    let case = Lengths {
-        array: array_length,
-        raw: raw_length,
-        elapsed: elapsed_length,
-        levels: levels_length,
-        answers: answers_length,
-    };
+    let case = rooms::asked(header);
     let room = Lengths {
         array: array.len(),
         raw: raw.len(),
@@ -69,14 +70,14 @@ fn lend(
         levels: levels.len(),
         answers: answers.len(),
     };
-    if texts::cases::fits(case, room) {
+    if rooms::fits(case, room) {
         return reply(
             header,
-            &mut array[..array_length],
-            &mut raw[..raw_length],
-            &mut elapsed[..elapsed_length],
-            &mut levels[..levels_length],
-            &mut answers[..answers_length],
+            &mut array[..case.array],
+            &mut raw[..case.raw],
+            &mut elapsed[..case.elapsed],
+            &mut levels[..case.levels],
+            &mut answers[..case.answers],
         );
     }
     false
@@ -85,7 +86,7 @@ fn lend(
 // Serves one case; false where the input has no more, or the case is cut off or too long.
 fn serve_one() -> bool {
     let mut header_bytes = [0u8; 64];
-    if reading::fill(&mut header_bytes) {
+    if fill(&mut header_bytes) {
         let mut header_words = [0u32; 16];
         words::decode(&header_bytes, &mut header_words);
         let header = headers::header_of(&header_words);

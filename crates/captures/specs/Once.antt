@@ -5,9 +5,9 @@ use mathlib.Core.Path.{_≡_}
 use Rattle.ground.specs.Verdict.{Verdict, accepted, refused, meant}
 use Rattle.ground.specs.declared.Reply.{Reply}
 use Rattle.refusals.specs.Refusals.{judgedOf, powerOf}
-use Rattle.sample.specs.Run.{Part}
-use Rattle.power.specs.Power.{poweredUp}
-use Rattle.twin.specs.Promises.{partAfter, rowAfter}
+use Rattle.sample.specs.Run.{partAfter}
+use Rattle.power.specs.Power.{poweredUp, atPower}
+use Rattle.twin.specs.Promises.{rowAfter}
 
 -- Power-up's refusal comes before anything that the capture says (Refusal numbers, 1 to 10).
 abbrev pub onceBy : Verdict → Verdict → Verdict
@@ -19,12 +19,8 @@ unfoldable pub onceOf : ℕ → ℕ → ℕ → List ℕ → List ℕ → List �
 onceOf part select stored es ls array row =
     onceBy (powerOf part select stored) (judgedOf (poweredUp part select stored) es ls array row)
 
--- The part that it starts from: the state at power-up, with the array beside it (State and time, power-up).
-abbrev pub startOf : ℕ → ℕ → ℕ → List ℕ → Part
-startOf part select stored array = record { state = poweredUp part select stored; array = array }
-
 -- Power-up and replay in one (Refusal numbers, 1 to 10).
 pub record Captures (part select stored : ℕ) (es ls array row : List ℕ) (r : Reply) (array′ row′ : List ℕ) : Type 0 where
   pub reply : meant r ≡ onceOf part select stored es ls array row
-  pub kept : array′ ≡ partAfter (onceOf part select stored es ls array row) es ls (startOf part select stored array) .array
-  pub said : row′ ≡ rowAfter (onceOf part select stored es ls array row) es ls (startOf part select stored array) row
+  pub kept : array′ ≡ partAfter (onceOf part select stored es ls array row) es ls (atPower part select stored array) .array
+  pub said : row′ ≡ rowAfter (onceOf part select stored es ls array row) es ls (atPower part select stored array) row

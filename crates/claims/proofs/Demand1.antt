@@ -1,5 +1,5 @@
 -- A refusal changes nothing: a replay hands back the state given and leaves array and answer row as they were, a
--- reading leaves the array, a writing the buffer; a refused power-up hands back the state of part 4323, select 0,
+-- list the array and the row of entries, a reading leaves the array, a writing the buffer; a refused power-up hands back the state of part 4323, select 0,
 -- stored byte 00h. It rests on the promises alone. No axiom is used.
 use mathlib.Core.Path.{sym, _∙_}
 use lib.ListN.{length}
@@ -32,5 +32,7 @@ demand-1 =
       door-write-image = λ size array out numbers r out′ numbers′ k p x h v.
           let e = eq-eqb (length numbers) 2 h in
           (x .answer ∙ rw e, x .reply ∙ rw (e, v), x .said ∙ rw (e, v));
+      list = λ s es ls array row r array′ row′ k p x v.
+          (x .reply ∙ rw v, x .state ∙ rw v, x .kept ∙ rw v, x .said ∙ rw v);
       only = λ s es ls array row r array′ row′ k p x e. sym (x .reply) ∙ e;
     }

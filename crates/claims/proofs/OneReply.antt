@@ -2,13 +2,12 @@
 -- operation promises are one and the same, in every part. It rests on the promises alone. No axiom is used.
 use mathlib.Core.Path.{_≡_, refl, sym}
 use Rattle.ground.specs.Verdict.{meant}
-use Rattle.ground.proofs.Verdicts.{apart}
+use Rattle.ground.proofs.Verdicts.{apart, meant-one}
 use Rattle.ground.specs.Size.{sizeMeant}
 use Rattle.power.specs.declared.Replayed.{Replayed}
 use Rattle.ground.specs.declared.kinds.Size.{Size}
 use Rattle.ground.specs.declared.kinds.Size.the-variants.{Bytes, Unknown}
 use Rattle.transfers.specs.declared.Listed.{Listed}
-use Rattle.demand2.proofs.Replies.{meant-one}
 use Rattle.claims.specs.OneReply.{OneReply}
 
 -- Two sizes that mean the same are the same.
@@ -35,9 +34,9 @@ fours e f g h = λ i. (e i, f i, g i, h i)
 replayed-one : (r q : Replayed) → meant (r .reply) ≡ meant (q .reply) → r .state ≡ q .state → r ≡ q
 replayed-one r q e f = λ i. record { reply = meant-one (r .reply) (q .reply) e i; state = f i }
 
--- Two counts that are equal, with equal states beside them.
-listed-one : (r q : Listed) → r .count ≡ q .count → r .state ≡ q .state → r ≡ q
-listed-one r q e f = λ i. record { count = e i; state = f i }
+-- The same of a list's reply.
+listed-one : (r q : Listed) → meant (r .reply) ≡ meant (q .reply) → r .state ≡ q .state → r ≡ q
+listed-one r q e f = λ i. record { reply = meant-one (r .reply) (q .reply) e i; state = f i }
 
 -- The claim: one outcome for each public operation.
 pub one-reply : OneReply

@@ -1,6 +1,6 @@
 -- Demand 1 (document 01, Refusal numbers, last lines). Whatever goes in: where the table of refusals has a number and a place for it, an
 -- outcome that keeps the operation's promise says these, and nothing has changed: a replay hands back the state given and leaves array and
--- answer row as they were, a reading leaves the array, a writing the buffer; the program writes one line. A refused power-up hands back the
+-- answer row as they were, a list of transfers the state, the array and the row of entries, a reading leaves the array, a writing the buffer; the program writes one line. A refused power-up hands back the
 -- state of part 4323, select 0, stored byte 00h. Through the door the two numbers of the reply row are that number and that place. What is lent for reading only (times, levels, text) no operation can change.
 -- For a person from the line: give it anything. What it cannot use it turns away with a number that says why and a place that says where, and
 -- everything you lent comes back as you lent it.
@@ -13,7 +13,7 @@ use Rattle.ground.specs.Kind.{known}
 use Rattle.ground.specs.Numbers.{x4323}
 use Rattle.part.specs.declared.state.State.{State}
 use Rattle.ground.specs.Verdict.{accepted, refused, meant}
-use Rattle.refusals.specs.Refusals.{powerOf, judgedOf}
+use Rattle.refusals.specs.Refusals.{powerOf, captureOf, judgedOf}
 use Rattle.ground.specs.declared.Reply.{Reply}
 use Rattle.power.specs.declared.Replayed.{Replayed}
 use Rattle.ground.specs.declared.kinds.Size.{Size}
@@ -30,6 +30,8 @@ use Rattle.texts.specs.Laying.{Starts}
 use Rattle.tidying.specs.Shown.{shownOf}
 use Rattle.telling.specs.Told.{ReadsThrough, WritesThrough}
 use Rattle.door.specs.Promises.{ReplaysOnce}
+use Rattle.transfers.specs.declared.Listed.{Listed}
+use Rattle.transfers.specs.Promises.{Lists}
 
 -- What each operation says and leaves where it refuses: k is the paper's number and p its place (Refusal numbers, last lines).
 pub record Demand1 : Type 0 where
@@ -61,6 +63,9 @@ pub record Demand1 : Type 0 where
   pub door-write-image : (size : ℕ) (array out numbers : List ℕ) (r : ℕ) (out′ numbers′ : List ℕ) (k p : ℕ)
       → WritesThrough size array out numbers r out′ numbers′ → length numbers ≡ 2 → writeVerdict intel size array out ≡ refused k p
       → (r ≡ 1) × (numbers′ ≡ k ∷ p ∷ []) × (out′ ≡ out)
+  pub list : (s : State) (es ls array row : List ℕ) (r : Listed) (array′ row′ : List ℕ) (k p : ℕ)
+      → Lists s es ls array row r array′ row′ → captureOf s es ls array ≡ refused k p
+      → (meant (r .reply) ≡ refused k p) × (r .state ≡ s) × (array′ ≡ array) × (row′ ≡ row)
   -- a replay says a refusal only where the table has it
   pub only : (s : State) (es ls array row : List ℕ) (r : Replayed) (array′ row′ : List ℕ) (k p : ℕ)
       → Replays s es ls array row r array′ row′ → meant (r .reply) ≡ refused k p → judgedOf s es ls array row ≡ refused k p

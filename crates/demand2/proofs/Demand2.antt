@@ -18,14 +18,13 @@ use Rattle.ground.specs.Verdict.{Verdict, accepted, meant}
 use Rattle.limits.specs.Samples.{sampleBy, samplesOf}
 use Rattle.refusals.specs.Refusals.{judgedOf}
 use Rattle.ground.specs.declared.Reply.the-variants.{Accepted}
-use Rattle.ground.proofs.Verdicts.{apart}
-use Rattle.refusals.proofs.Laws.{rows-equal}
+use Rattle.ground.proofs.Verdicts.{apart, meant-one}
+use Rattle.refusals.proofs.Laws.{judged-passed, rows-equal}
 use Rattle.power.specs.declared.Replayed.{Replayed}
 use Rattle.sample.specs.Run.{Part, partStep, runOf, answersOf}
 use Rattle.twin.specs.Promises.{Replays, Runs}
 use Rattle.demand2.specs.Demand2.{ByRules, Pieces, Counted, Demand2}
 use Rattle.demand2.proofs.Judged.{judged-passed, judged-fit}
-use Rattle.demand2.proofs.Replies.{meant-one}
 use Rattle.ranges.specs.Fit.{Fit}
 use Rattle.ranges.proofs.InRange.{run-fit}
 

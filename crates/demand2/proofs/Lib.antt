@@ -1,4 +1,3 @@
 pub mod Judged
 pub mod Cut
 pub mod Demand2
-pub mod Replies

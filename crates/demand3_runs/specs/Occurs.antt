@@ -8,7 +8,7 @@ use mathlib.Core.Path.{_≡_}
 use lib.ListN.{length, set, replicate}
 use Rattle.ground.specs.Numbers.{x4323, smallSize, writeTime}
 use Rattle.sample.specs.Run.{Part, partStep}
-use Rattle.power.specs.Power.{poweredUp}
+use Rattle.power.specs.Power.{atPower}
 use Rattle.demand3.specs.Sending.{nothing}
 use Rattle.demand3.specs.Differ.{When, never, sample, EqualBut, firstReach, firstDiff, firstCover, elsewhere, sentAfter, coversNone}
 use Rattle.waves.specs.Waves.{Capture, joined, upTo, after, brisk, wait, awake, pageWrite, registerWrite, readFrom}
@@ -21,7 +21,7 @@ spot = 0x0345
 
 -- A part at power-up with a stored control byte, its array all FFh but for the address (State and time, power-up).
 abbrev pub holding : ℕ → ℕ → Part
-holding stored v = record { state = poweredUp x4323 0 stored; array = set (replicate smallSize 0xFF) spot v }
+holding stored v = atPower x4323 0 stored (set (replicate smallSize 0xFF) spot v)
 
 -- One part holds 0100 1100 at the address, nothing is locked.
 abbrev pub left : Part

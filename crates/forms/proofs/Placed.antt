@@ -6,11 +6,10 @@ use mathlib.Core.Path.{_≡_, refl, sym, _∙_}
 use native.Mathlib.Omega.{arith}
 use lib.ListN.{length, take, drop, take-append-drop}
 use borrow.Author.Tests.{ne-eqb, le-leb, lt-leb}
-use Rattle.ground.proofs.Rows.{part-back}
+use Rattle.ground.proofs.Rows.{part-back, tail-whole}
 use Rattle.cells.specs.Cells.{freshOf, giveOf}
 use Rattle.cells.specs.Promises.{GivesTo}
 use Rattle.cells.proofs.CellLaws.{fresh-nil, give-nil}
-use Rattle.lines.proofs.PartLaws.{tail-whole}
 use Rattle.forms.specs.Parts.{Places}
 use Rattle.forms.specs.declared.Says.the-variants.{Gives, Faulty}
 

@@ -11,6 +11,10 @@ pub sets-append : (vs ws row : List ℕ) (at next : ℕ) → next ≡ at + lengt
 sets-append [] ws row at next e = let f : next ≡ at = omega arith in rw f
 sets-append (v ∷ vs) ws row at next e = sets-append vs ws (set row at v) (suc at) next (omega arith)
 
+-- The part of a list from an index to its end is all that follows the index.
+pub tail-whole : (a : ℕ) (xs : List ℕ) → take (length xs - a) (drop a xs) ≡ drop a xs
+tail-whole a xs = take-all (length xs - a) (drop a xs) (simp length-drop (omega arith))
+
 -- A part lent from a on comes back as the whole with what was done to its tail.
 pub part-back : (f : List ℕ → List ℕ) (a : ℕ) (xs ys : List ℕ) → ys ≡ f (take (length xs - a) (drop a xs))
     → take a xs ++ (ys ++ drop (length xs - a) (drop a xs)) ≡ take a xs ++ f (drop a xs)

@@ -17,3 +17,11 @@ is-refused r v k p e f = sym e ∙ ap meant f
 -- A refusal is no acceptance.
 pub apart : (k p n : ℕ) → refused k p ≡ accepted n → ⊥
 apart k p n e = let z : _≡_ {A = ℕ} 0 1 = cc in omega arith
+
+-- Two replies that mean the same are the same.
+pub meant-one : (r q : Reply) → meant r ≡ meant q → r ≡ q
+unfolding meant
+meant-one (Accepted n) (Accepted m) e = cc
+meant-one (Accepted n) (Refused k p) e = absurd (apart k p n (sym e))
+meant-one (Refused k p) (Accepted n) e = absurd (apart k p n e)
+meant-one (Refused k p) (Refused j q) e = cc

@@ -13,7 +13,7 @@ use Rattle.digits.specs.Values.{valueOf}
 use Rattle.hexfile.specs.Parts.{valuesOf, allDigits}
 use Rattle.hexfile.specs.Promises.{Decodes}
 use Rattle.digits.proofs.DigitLaws.{value-digit}
-use Rattle.lines.proofs.PartLaws.{tail-whole}
+use Rattle.ground.proofs.Rows.{tail-whole}
 use Rattle.hexfile.proofs.PairLaws.{two}
 
 -- One turn of the tests: a character is tested, and what is left after it.

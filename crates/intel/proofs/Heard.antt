@@ -14,7 +14,7 @@ use Rattle.hexfile.specs.Promises.{Decodes, SumsUp}
 use Rattle.ground.proofs.Tests.{and-split}
 use Rattle.hexfile.proofs.PairLaws.{pair-fits, length-pairsOf}
 use Rattle.cells.proofs.CellLaws.{fresh-nil}
-use Rattle.lines.proofs.PartLaws.{tail-whole}
+use Rattle.ground.proofs.Rows.{tail-whole}
 use Rattle.intel.specs.Intel.{bytesOf, countOf, addressOf, typeOf, dataOf, wellFormed, typed, intel}
 use Rattle.forms.specs.Reading.{givenOf, saysOf}
 use Rattle.forms.specs.Parts.{Places, Hears}

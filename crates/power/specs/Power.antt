@@ -1,11 +1,13 @@
 -- The part at power-up, and its size (document 01, State and time; Refusal numbers).
 use Prim.Native.Nat.{ℕ}
 use mathlib.Core.Bool.{true, false}
+use mathlib.Core.List.{List}
 use Rattle.ground.specs.Numbers.{x4323, resetHold}
 use Rattle.timers.specs.Timers.{off}
 use Rattle.page.specs.Page.{at, emptyLoad}
 use Rattle.part.specs.declared.state.Phase.the-variants.{Idle}
 use Rattle.part.specs.declared.state.State.{State}
+use Rattle.part.specs.Bench.{Part}
 use Rattle.wire.specs.Sign.{cleanFrame}
 use Rattle.address.specs.Talk.{rested}
 use Rattle.ground.specs.Verdict.{Verdict, accepted, refused}
@@ -25,6 +27,10 @@ poweredUp part select stored =
           };
       load = emptyLoad;
     }
+
+-- A part at power-up, with its array beside it (State and time, power-up).
+abbrev pub atPower : ℕ → ℕ → ℕ → List ℕ → Part
+atPower part select stored array = record { state = poweredUp part select stored; array = array }
 
 -- The state that power-up returns: refused, that of part 4323, select 0, stored byte 00h (Refusal numbers, last lines).
 abbrev pub powerState : Verdict → ℕ → ℕ → ℕ → State

@@ -18,8 +18,8 @@ use Rattle.ground.proofs.Known.{kind-sound}
 use Rattle.ground.specs.Verdict.{accepted}
 use Rattle.refusals.specs.Refusals.{storable, powerBy, powerOf, inRange}
 use Rattle.sample.specs.Run.{Part, partStep, runOf}
-use Rattle.power.specs.Power.{poweredUp}
-use Rattle.reachable.specs.Reachable.{atPower, Reachable, speaks, sendsNow, Lowers, acknowledges, sendsZero, Keeps}
+use Rattle.power.specs.Power.{poweredUp, atPower}
+use Rattle.reachable.specs.Reachable.{Reachable, speaks, sendsNow, Lowers, acknowledges, sendsZero, Keeps}
 use Rattle.reachable.proofs.Kept.Talks.{Voice, rests, answers, sends, fresh}
 use Rattle.ranges.specs.Fit.{Fit}
 use Rattle.ranges.proofs.InRange.{Within, within-range, run-fit}

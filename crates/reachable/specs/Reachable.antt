@@ -27,11 +27,7 @@ use Rattle.ground.specs.Verdict.{accepted}
 use Rattle.refusals.specs.Refusals.{powerOf, inRange}
 use Rattle.sample.specs.Sample.{opensOf, signIn}
 use Rattle.sample.specs.Run.{Part, partStep, runOf}
-use Rattle.power.specs.Power.{poweredUp}
-
--- A part at power-up, with its array (State and time, power-up).
-abbrev pub atPower : ℕ → ℕ → ℕ → List ℕ → Part
-atPower part select stored array = record { state = poweredUp part select stored; array = array }
+use Rattle.power.specs.Power.{atPower}
 
 -- A part after some rows of one length from an accepted power-up, its array of the right size; the samples may be any
 -- (State and time; Refusal numbers, 1 to 3, 5 and 6).

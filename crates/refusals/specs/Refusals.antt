@@ -30,25 +30,38 @@ inRange s =
     && (leb (s .chip .select) mostSelect
     && storable (s .device .control .stored)))))
 
--- Refusals 4 to 8 in numeric order, then the samples (Refusal numbers).
-abbrev pub judgedBy : Bool → Bool → Bool → Bool → Bool → Verdict → Verdict
-judgedBy false l e m a v = refused 4 0
-judgedBy true false e m a v = refused 5 0
-judgedBy true true false m a v = refused 6 0
-judgedBy true true true false a v = refused 7 0
-judgedBy true true true true false v = refused 8 0
-judgedBy true true true true true v = v
+-- Refusals 4 to 7 in numeric order, then the verdict on what follows (Refusal numbers, 4 to 7).
+abbrev pub rowsBy : Bool → Bool → Bool → Bool → Verdict → Verdict
+rowsBy false l e m v = refused 4 0
+rowsBy true false e m v = refused 5 0
+rowsBy true true false m v = refused 6 0
+rowsBy true true true false v = refused 7 0
+rowsBy true true true true v = v
 
--- The replay's verdict: acceptance with the row length, or the first refusal that is due (Refusal numbers, 4 to 10).
-unfoldable pub judgedOf : State → List ℕ → List ℕ → List ℕ → List ℕ → Verdict
-judgedOf s es ls array answers =
-    judgedBy
+-- Refusal 8, then the verdict on what follows (Refusal numbers, 8).
+abbrev pub answersBy : Bool → Verdict → Verdict
+answersBy false v = refused 8 0
+answersBy true v = v
+
+-- Refusals 4 to 7 of a state, its array and two rows, then the verdict on what follows (Refusal numbers, 4 to 7).
+abbrev pub rowsOf : State → List ℕ → List ℕ → List ℕ → Verdict → Verdict
+rowsOf s es ls array v =
+    rowsBy
     (inRange s)
     (eqb (length array) (kindOf (s .chip .part) .size))
     (eqb (length es) (length ls))
     (leb (length ls) mostSamples)
-    (eqb (length answers) (length ls))
-    (samplesOf 0 es ls (accepted (length ls)))
+    v
+
+-- The verdict on a capture that asks for no answers: acceptance with the row length, or the first refusal that is due but 8, which has
+-- no meaning there (Refusal numbers, 4 to 7, 9, 10).
+unfoldable pub captureOf : State → List ℕ → List ℕ → List ℕ → Verdict
+captureOf s es ls array = rowsOf s es ls array (samplesOf 0 es ls (accepted (length ls)))
+
+-- The replay's verdict: acceptance with the row length, or the first refusal that is due (Refusal numbers, 4 to 10).
+unfoldable pub judgedOf : State → List ℕ → List ℕ → List ℕ → List ℕ → Verdict
+judgedOf s es ls array answers =
+    rowsOf s es ls array (answersBy (eqb (length answers) (length ls)) (samplesOf 0 es ls (accepted (length ls))))
 
 -- Refusals 1 to 3 in numeric order; an accepted power-up has seen no sample (Refusal numbers, 1 to 3).
 abbrev pub powerBy : Bool → Bool → Bool → Verdict

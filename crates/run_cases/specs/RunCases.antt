@@ -12,14 +12,14 @@ use Rattle.timers.specs.Timers.{watchCode}
 use Rattle.page.specs.Page.{at}
 use Rattle.part.specs.declared.state.Control.{Control}
 use Rattle.control.specs.Register.{readsOf}
-use Rattle.power.specs.Power.{poweredUp}
+use Rattle.power.specs.Power.{atPower}
 use Rattle.sample.specs.Run.{Part}
 use Rattle.waves.specs.Waves.{Capture, joined, brisk, wait, awake, start, sent, pageWrite, registerWrite, readFrom}
 use Rattle.runs.specs.Runs.{partAfter, answersTo, Taken}
 
 -- A part at power-up, with select 0, stored byte 00h and an array all FFh (State and time, power-up).
 abbrev pub fresh : ℕ → Part
-fresh part = record { state = poweredUp part 0 0; array = replicate (kindOf part .size) 0xFF }
+fresh part = atPower part 0 0 (replicate (kindOf part .size) 0xFF)
 
 -- Such a part after captures, one after the other (State and time, each sample).
 abbrev pub partOf : ℕ → List Capture → Part

@@ -7,38 +7,62 @@ use form::fields;
 use form::headers;
 use form::headers::Header;
 use form::words;
+use libc::STDIN_FILENO;
 use part::state::State;
-use reading::rooms;
 use refusals::verdicts;
-use texts::cases::Lengths;
+use rooms::Lengths;
+use transfers::Listed;
 use twin::Reply;
 ghost use Prim.Native.Nat.{_≤_};
 ghost use lib.ListN.{length};
 
-// One replay: its transfers, then what it changed in the array.
-fn show_once(state: State, elapsed: &[u32], levels: &[u8], array: &mut [u8]) -> State
+// Fills a row from the input, and answers whether there was enough of it.
+fn fill(row: &mut [u8]) -> bool {
+    let got = io::read_full(STDIN_FILENO, row);
+    got == row.len()
+}
+
+// One replay of several: its transfers, then what it changed in the array; or the line of its refusal.
+fn show_once(
+    turn: u32,
+    times: u32,
+    state: State,
+    elapsed: &[u32],
+    levels: &[u8],
+    array: &mut [u8],
+) -> Listed
     requires { ⌜ length (now array) ≤ 16384 ⌝ }
 {
     let mut before = rooms::array_room();
     bytes::copy(array, &mut before);
     let mut entries = rooms::entry_room();
     let listed = transfers::list(state, elapsed, levels, array, &mut entries);
-    printing::put_list(&entries, listed.count);
+    let reply = listed.reply;
+    let Reply::Accepted(count) = reply else {
+        printing::put_refusal(reply);
+        return listed;
+    };
+    printing::put_heading(turn, times);
+    printing::put_list(&entries, count);
     changes::put_changes(&before, array);
-    listed.state
+    listed
 }
 
-// So many replays, each from the state and array that the one before left; 0 counts as 1.
+// So many replays, each from the state and array that the one before left; 0 counts as 1. The rows are
+// refused the first time or never: a run leaves every field of the state within its range
+// (ranges/proofs/InRange, run-fit).
 fn show_times(times: u32, state: State, elapsed: &[u32], levels: &[u8], array: &mut [u8])
     requires { ⌜ length (now array) ≤ 16384 ⌝ }
 {
-    printing::put_heading(1, times);
-    let mut now = show_once(state, elapsed, levels, array);
+    let mut last = show_once(1, times, state, elapsed, levels, array);
     let mut done = 1;
     while done < times {
+        let reply = last.reply;
+        let Reply::Accepted(_) = reply else {
+            return;
+        };
         done += 1;
-        printing::put_heading(done, times);
-        now = show_once(now, elapsed, levels, array);
+        last = show_once(done, times, last.state, elapsed, levels, array);
     }
 }
 
@@ -56,8 +80,8 @@ fn judged(
     verdicts::judge(state, elapsed, levels, array, &answers[..answers_length])
 }
 
-// Powers a part up as the header says. The rows are refused the first time or never: a run leaves every
-// field of the state within its range (ranges/proofs/InRange, run-fit).
+// Powers a part up as the header says. The list asks for no answer row; where the case has one of
+// another length than its levels, a replay refuses it, and its verdict is told.
 fn show_case(header: Header, elapsed: &[u32], levels: &[u8], array: &mut [u8])
     requires { ⌜ length (now array) ≤ 16384 ⌝ }
     requires { ⌜ header .answers ≤ 65537 ⌝ }
@@ -72,16 +96,16 @@ fn show_case(header: Header, elapsed: &[u32], levels: &[u8], array: &mut [u8])
         return;
     };
     let state = fields::put_in(header.preset, up.state);
-    let reply = judged(state, elapsed, levels, array, header.answers as usize);
-    let Reply::Accepted(_) = reply else {
-        printing::put_refusal(reply);
+    let answers_length = header.answers as usize;
+    if answers_length != levels.len() {
+        printing::put_refusal(judged(state, elapsed, levels, array, answers_length));
         return;
-    };
+    }
     show_times(header.times, state, elapsed, levels, array);
 }
 
-// Reads the rows of the case, each lent at just its length, and shows it; false where the input ends
-// before they do.
+// Reads the rows of the case, each lent at just its length and in the order in which the input has
+// them, and shows it; false where the input ends before they do.
 fn show_rows(
     header: Header,
     array: &mut [u8],
@@ -92,9 +116,14 @@ fn show_rows(
     requires { ⌜ length (now array) ≤ 16384 ⌝ }
     requires { ⌜ header .answers ≤ 65537 ⌝ }
 {
-    if reading::read_rows(array, raw, elapsed, levels) {
-        show_case(header, elapsed, levels, array);
-        return true;
+    if fill(array) {
+        if fill(raw) {
+            if fill(levels) {
+                words::decode(raw, elapsed);
+                show_case(header, elapsed, levels, array);
+                return true;
+            }
+        }
     }
     false
 }
@@ -109,17 +138,7 @@ fn lend(
 ) -> bool
     requires { ⌜ length (now array) ≤ 16384 ⌝ }
 {
-    let array_length = header.array as usize;
-    let elapsed_length = header.elapsed as usize;
-    let levels_length = header.levels as usize;
-    let raw_length = elapsed_length * words::WORD;
-    let case = Lengths {
-        array: array_length,
-        raw: raw_length,
-        elapsed: elapsed_length,
-        levels: levels_length,
-        answers: header.answers as usize,
-    };
+    let case = rooms::asked(header);
     let room = Lengths {
         array: array.len(),
         raw: raw.len(),
@@ -127,13 +146,13 @@ fn lend(
         levels: levels.len(),
         answers: rooms::ROW,
     };
-    if texts::cases::fits(case, room) {
+    if rooms::fits(case, room) {
         return show_rows(
             header,
-            &mut array[..array_length],
-            &mut raw[..raw_length],
-            &mut elapsed[..elapsed_length],
-            &mut levels[..levels_length],
+            &mut array[..case.array],
+            &mut raw[..case.raw],
+            &mut elapsed[..case.elapsed],
+            &mut levels[..case.levels],
         );
     }
     false
@@ -141,7 +160,7 @@ fn lend(
 
 fn main() {
     let mut header_bytes = [0u8; 64];
-    if reading::fill(&mut header_bytes) {
+    if fill(&mut header_bytes) {
         let mut header_words = [0u32; 16];
         words::decode(&header_bytes, &mut header_words);
         let header = headers::header_of(&header_words);

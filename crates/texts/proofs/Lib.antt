@@ -1,4 +1,3 @@
 pub mod Decimal
 pub mod Starting
 pub mod Alike
-pub mod Fitting

@@ -2,4 +2,3 @@ pub mod Numbers
 pub mod Refusal
 pub mod Laying
 pub mod Differences
-pub mod Cases

@@ -3,10 +3,10 @@ use Prim.Native.Nat.{ℕ, zero, suc, _-_}
 use mathlib.Core.List.{List}
 use Rattle.part.specs.declared.state.State.{State}
 use Rattle.power.specs.declared.Replayed.{Replayed}
-use Rattle.sample.specs.Run.{Part}
+use Rattle.sample.specs.Run.{Part, partAfter}
 use Rattle.ground.specs.Verdict.{Verdict, meant}
 use Rattle.refusals.specs.Refusals.{judgedOf}
-use Rattle.twin.specs.Promises.{partAfter, rowAfter}
+use Rattle.twin.specs.Promises.{rowAfter}
 
 -- What a replay leaves: its verdict, the part, and the answer row.
 pub record Round : Type 0 where

@@ -5,14 +5,9 @@ use mathlib.Core.List.{List}
 use mathlib.Core.Path.{_≡_}
 use Rattle.part.specs.declared.state.State.{State}
 use Rattle.power.specs.declared.Replayed.{Replayed}
-use Rattle.sample.specs.Run.{Part, runOf, answersOf}
+use Rattle.sample.specs.Run.{Part, runOf, partAfter, answersOf}
 use Rattle.ground.specs.Verdict.{Verdict, accepted, refused, meant}
 use Rattle.refusals.specs.Refusals.{judgedOf}
-
--- The part after a replay: refused, as it was (What goes in and what comes out; Refusal numbers, last lines).
-abbrev pub partAfter : Verdict → List ℕ → List ℕ → Part → Part
-partAfter (accepted n) es ls p = runOf es ls p
-partAfter (refused k q) es ls p = p
 
 -- The answer row after a replay: refused, as it was (What goes in and what comes out; Refusal numbers, last lines).
 abbrev pub rowAfter : Verdict → List ℕ → List ℕ → Part → List ℕ → List ℕ

@@ -1,25 +1,13 @@
 -- `bench::lend` is safe: each part that is lent lies within its buffer.
 use mathlib.Core.Path.{sym}
 use lib.Seq.{length-take-le}
-use Rattle.texts.proofs.Fitting.{fits-all}
+use Rattle.rooms.proofs.Fitting.{fits-all}
 use borrow.Author.Needs.{needs}
 use Rattle.bench.proofs.lend.Statement.{statement}
 use Rattle.bench.proofs.lend.Tie as tie
 
-cast-array-length : tie.Need-cast-array-length
-cast-array-length c = search needs
-
-cast-elapsed-length : tie.Need-cast-elapsed-length
-cast-elapsed-length c = search needs
-
-cast-levels-length : tie.Need-cast-levels-length
-cast-levels-length c = search needs
-
-cast-answers-length : tie.Need-cast-answers-length
-cast-answers-length c = search needs
-
-mul-raw-length : tie.Need-mul-raw-length
-mul-raw-length c = search needs
+asked-requires : tie.Need-asked-requires
+asked-requires c κs = search needs
 
 fits-requires : tie.Need-fits-requires
 fits-requires c κs = search needs
@@ -87,11 +75,7 @@ pub lend-spec : {M : Type 1} → statement M
 lend-spec =
     tie.close
     (tie.spec
-    cast-array-length
-    cast-elapsed-length
-    cast-levels-length
-    cast-answers-length
-    mul-raw-length
+    asked-requires
     fits-requires
     slice-relend-prefix-reply
     slice-aggregate-reply

@@ -5,7 +5,7 @@ use native.Mathlib.Omega.{arith}
 use borrow.Author.Needs.{needs}
 use lib.ListN.{length, drop, length-drop}
 use Rattle.lines.specs.Lines.{linesOf}
-use Rattle.lines.proofs.PartLaws.{tail-whole}
+use Rattle.ground.proofs.Rows.{tail-whole}
 use Rattle.forms.specs.Reading.{linesRead}
 use Rattle.formats.specs.Formats.{formOf}
 use Rattle.reader.proofs.Turns.{found, turn-none, turn-gives, turn-faulty, turn-after, turn-ends, lines-refused, lines-accepted}

@@ -17,7 +17,7 @@ array-share-prefix-answers c = search needs
 slice-aggregate-judge : tie.Need-slice-aggregate-judge
 slice-aggregate-judge c =
     let n = c .before .before .before .before .before .args .answers-length in
-    let h : n ≤ length (c .before .row-room .result) = omega (arith, c .before .row-room .ensures, c .before .before .before .before .before .pre) in
+    let h : n ≤ length (c .before .row-room .result) = omega (arith, c .before .row-room .ensures .0, c .before .before .before .before .before .pre) in
     sym (length-take-le _ _ h)
 
 judge-requires : tie.Need-judge-requires

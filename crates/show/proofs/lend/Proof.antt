@@ -1,26 +1,15 @@
 -- `show::lend` is safe: each part that is lent lies within its buffer.
-use mathlib.Core.Path.{sym}
+use mathlib.Core.Path.{sym, ap}
 use native.Mathlib.Omega.{arith}
 use lib.Seq.{length-take-le}
-use Rattle.texts.proofs.Fitting.{fits-all}
+use Rattle.rooms.specs.declared.Lengths.{Lengths}
+use Rattle.rooms.proofs.Fitting.{fits-all}
 use borrow.Author.Needs.{needs}
 use Rattle.show.proofs.lend.Statement.{statement}
 use Rattle.show.proofs.lend.Tie as tie
 
-cast-array-length : tie.Need-cast-array-length
-cast-array-length c = search needs
-
-cast-elapsed-length : tie.Need-cast-elapsed-length
-cast-elapsed-length c = search needs
-
-cast-levels-length : tie.Need-cast-levels-length
-cast-levels-length c = search needs
-
-mul-raw-length : tie.Need-mul-raw-length
-mul-raw-length c = search needs
-
-cast-t12 : tie.Need-cast-t12
-cast-t12 c = search needs
+asked-requires : tie.Need-asked-requires
+asked-requires c κs = search needs
 
 fits-requires : tie.Need-fits-requires
 fits-requires c κs = search needs
@@ -51,8 +40,11 @@ slice-aggregate-show-rows-4 c = sym (length-take-le _ _ (fits-all _ _ (c .before
 
 show-rows-requires : tie.Need-show-rows-requires
 show-rows-requires c κs =
-    let all = fits-all _ _ (c .before .before .before .before .before .fits2 .ensures) (c .before .before .before .before .if1 .taken) in
-    (rw (length-take-le _ _ (all .array)) (omega (arith, all .array, c .before .before .before .before .before .before .before .before .before .before .before .before .before .before .pre)), all .answers)
+    let test = c .before .before .before .before in
+    let all = fits-all _ _ (test .before .fits2 .ensures) (test .if1 .taken) in
+    let start = test .before .before .before .before .before .before .before in
+    let e = ap (λ (l : Lengths). l .answers) (test .before .before .asked .ensures) in
+    (rw (length-take-le _ _ (all .array)) (omega (arith, all .array, start .pre)), omega (arith, all .answers, e))
 
 same-length : tie.Need-same-length
 same-length c = search needs
@@ -76,11 +68,7 @@ pub lend-spec : {M : Type 1} → statement M
 lend-spec =
     tie.close
     (tie.spec
-    cast-array-length
-    cast-elapsed-length
-    cast-levels-length
-    mul-raw-length
-    cast-t12
+    asked-requires
     fits-requires
     slice-relend-prefix-show-rows
     slice-aggregate-show-rows

@@ -30,17 +30,11 @@ returns c = search needs
 put-in-requires : tie.Need-put-in-requires
 put-in-requires c κs = search needs
 
-cast-judged : tie.Need-cast-judged
-cast-judged c = search needs
+cast-answers-length : tie.Need-cast-answers-length
+cast-answers-length c = search needs
 
 judged-requires : tie.Need-judged-requires
-judged-requires c κs = c .before .before .before .before .before .before .before .before .before .before .before .before .pre .1
-
-enum-told-3 : tie.Need-enum-told-3
-enum-told-3 c = search needs
-
-enum-told-4 : tie.Need-enum-told-4
-enum-told-4 c = search needs
+judged-requires c κs = c .before .before .before .before .before .before .before .before .before .before .before .before .before .pre .1
 
 put-refusal-requires-2 : tie.Need-put-refusal-requires-2
 put-refusal-requires-2 c κs = search needs
@@ -52,7 +46,7 @@ returns-2 : tie.Need-returns-2
 returns-2 c = search needs
 
 show-times-requires : tie.Need-show-times-requires
-show-times-requires c κs = c .before .before .before .before .before .before .before .before .before .before .before .before .before .before .before .before .pre .0
+show-times-requires c κs = c .before .before .before .before .before .before .before .before .before .before .before .before .before .pre .0
 
 same-length-2 : tie.Need-same-length-2
 same-length-2 c = search needs
@@ -73,10 +67,8 @@ show-case-spec =
     put-refusal-requires
     returns
     put-in-requires
-    cast-judged
+    cast-answers-length
     judged-requires
-    enum-told-3
-    enum-told-4
     put-refusal-requires-2
     same-length
     returns-2

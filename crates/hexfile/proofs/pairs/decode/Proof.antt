@@ -7,7 +7,7 @@ use lib.ListN.{length, length-drop}
 use lib.Seq.{length-take-le}
 use borrow.Rule.Slice.PartMut.{same-len-mid}
 use Rattle.hexfile.proofs.WindowLaws.{Decoded, windows-fit, decode-turn, decode-odd, decode-fails, decode-ends}
-use Rattle.lines.proofs.PartLaws.{tail-whole}
+use Rattle.ground.proofs.Rows.{tail-whole}
 use Rattle.hexfile.proofs.pairs.decode.Statement.{statement}
 use Rattle.hexfile.proofs.pairs.decode.Tie as tie
 

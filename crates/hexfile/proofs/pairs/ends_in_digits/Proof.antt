@@ -2,7 +2,7 @@
 use borrow.Author.Needs.{needs}
 use lib.Seq.{length-take-le}
 use mathlib.Core.Path.{sym}
-use Rattle.lines.proofs.PartLaws.{tail-whole}
+use Rattle.ground.proofs.Rows.{tail-whole}
 use Rattle.hexfile.proofs.WindowLaws.{ends-some, ends-few}
 use Rattle.hexfile.proofs.pairs.ends_in_digits.Statement.{statement}
 use Rattle.hexfile.proofs.pairs.ends_in_digits.Tie as tie

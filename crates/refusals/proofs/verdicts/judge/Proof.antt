@@ -1,65 +1,53 @@
 -- `refusals::verdicts::judge` meets its contract.
-use borrow.Author.Tests.{eq-eqb, ne-eqb, le-leb, lt-leb}
-use Rattle.ground.proofs.Tests.{not-held, not-failed}
+use mathlib.Core.Path.{sym, _∙_}
+use denote.Ref.{now}
+use borrow.Author.Needs.{needs}
+use borrow.Author.Tests.{eq-eqb, ne-eqb}
 use Rattle.ground.specs.Verdict.{meant}
 use Rattle.refusals.specs.Refusals.{judgedOf}
-use borrow.Author.Needs.{needs}
+use Rattle.refusals.proofs.Laws.{rows-stop, rows-go, rows-one}
 use Rattle.refusals.proofs.verdicts.judge.Statement.{statement}
 use Rattle.refusals.proofs.verdicts.judge.Tie as tie
 
-kind-of-requires : tie.Need-kind-of-requires
-kind-of-requires c κs = search needs
+rows-requires : tie.Need-rows-requires
+rows-requires c κs = search needs
 
-in-range-requires : tie.Need-in-range-requires
-in-range-requires c κs = search needs
+enum-told : tie.Need-enum-told
+enum-told c = search needs
+
+enum-told-2 : tie.Need-enum-told-2
+enum-told-2 c = search needs
 
 returns : tie.Need-returns
-unfolding meant judgedOf
+unfolding judgedOf
 returns c =
-    rw (← c .before .in-range .ensures, not-held (c .before .in-range .result) (c .if1 .taken))
-
-cast-if2 : tie.Need-cast-if2
-cast-if2 c = search needs
+    let a = c .before .before .before .before .before .before .before .args in
+    let r = c .before .before .rows in
+    rows-stop (a .s) (now (a .elapsed)) (now (a .levels)) (now (a .array)) (r .result) _ (r .ensures) _ _ _ (c .enum-told2 .given .1)
 
 returns-2 : tie.Need-returns-2
 unfolding meant judgedOf
 returns-2 c =
-    rw (← c .before .before .before .in-range .ensures, not-failed (c .before .before .before .in-range .result) (c .before .before .if1 .left), ← c .before .before .before .before .kind-of .ensures, ne-eqb _ _ (c .if2 .taken))
-
-returns-3 : tie.Need-returns-3
-unfolding meant judgedOf
-returns-3 c =
-    rw (← c .before .before .before .before .in-range .ensures, not-failed (c .before .before .before .before .in-range .result) (c .before .before .before .if1 .left), ← c .before .before .before .before .before .kind-of .ensures, eq-eqb _ _ (c .before .if2 .left), ne-eqb _ _ (c .if3 .taken))
-
-returns-4 : tie.Need-returns-4
-unfolding meant judgedOf
-returns-4 c =
-    rw (← c .before .before .before .before .before .in-range .ensures, not-failed (c .before .before .before .before .before .in-range .result) (c .before .before .before .before .if1 .left), ← c .before .before .before .before .before .before .kind-of .ensures, eq-eqb _ _ (c .before .before .if2 .left), eq-eqb _ _ (c .before .if3 .left), lt-leb _ _ (c .if4 .taken))
-
-returns-5 : tie.Need-returns-5
-unfolding meant judgedOf
-returns-5 c =
-    rw (← c .before .before .before .before .before .before .in-range .ensures, not-failed (c .before .before .before .before .before .before .in-range .result) (c .before .before .before .before .before .if1 .left), ← c .before .before .before .before .before .before .before .kind-of .ensures, eq-eqb _ _ (c .before .before .before .if2 .left), eq-eqb _ _ (c .before .before .if3 .left), le-leb _ _ (c .before .if4 .left), ne-eqb _ _ (c .if5 .taken))
+    let a = c .before .before .before .before .before .before .before .before .args in
+    let r = c .before .before .before .rows in
+    let e = rows-go (a .s) (now (a .elapsed)) (now (a .levels)) (now (a .array)) (r .result) _ (r .ensures) _ _ (c .before .enum-told .given .1) in
+    sym (e ∙ rw (ne-eqb _ _ (c .if1 .taken)))
 
 samples-requires : tie.Need-samples-requires
-samples-requires c κs = search needs
+samples-requires c κs =
+    let a = c .before .before .before .before .before .before .before .before .args in
+    let r = c .before .before .before .rows in
+    rows-one (a .s) (now (a .elapsed)) (now (a .levels)) (now (a .array)) (r .result) _ (r .ensures) _ (c .before .enum-told .given .1)
 
-returns-6 : tie.Need-returns-6
+returns-3 : tie.Need-returns-3
 unfolding judgedOf
-returns-6 c =
-    rw (← c .before .before .before .before .before .before .before .in-range .ensures, not-failed (c .before .before .before .before .before .before .before .in-range .result) (c .before .before .before .before .before .before .if1 .left), ← c .before .before .before .before .before .before .before .before .kind-of .ensures, eq-eqb _ _ (c .before .before .before .before .if2 .left), eq-eqb _ _ (c .before .before .before .if3 .left), le-leb _ _ (c .before .before .if4 .left), eq-eqb _ _ (c .before .if5 .left)) (c .samples .ensures)
+returns-3 c =
+    let a = c .before .before .before .before .before .before .before .before .before .args in
+    let r = c .before .before .before .before .rows in
+    let e = rows-go (a .s) (now (a .elapsed)) (now (a .levels)) (now (a .array)) (r .result) _ (r .ensures) _ _ (c .before .before .enum-told .given .1) in
+    c .samples .ensures ∙ sym (e ∙ rw (eq-eqb _ _ (c .before .if1 .left)))
 
 pub judge-spec : {M : Type 1} → statement M
 judge-spec =
     tie.close
-    (tie.spec
-    kind-of-requires
-    in-range-requires
-    returns
-    cast-if2
-    returns-2
-    returns-3
-    returns-4
-    returns-5
-    samples-requires
-    returns-6)
+    (tie.spec rows-requires enum-told enum-told-2 returns returns-2 samples-requires returns-3)

@@ -4,8 +4,8 @@ use mathlib.Core.Bool.{Bool, true}
 use mathlib.Core.Path.{_≡_}
 use borrow.Author.Tests.{leb-true}
 use Rattle.ground.proofs.Tests.{and-split}
-use Rattle.texts.specs.Cases.{fitsOf}
-use Rattle.texts.specs.declared.cases.Lengths.{Lengths}
+use Rattle.rooms.specs.Rooms.{fitsOf}
+use Rattle.rooms.specs.declared.Lengths.{Lengths}
 
 -- No row of a case that fits is longer than its room.
 pub record Fits (case room : Lengths) : Type 0 where

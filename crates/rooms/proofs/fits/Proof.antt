@@ -1,8 +1,8 @@
--- `texts::cases::fits` meets its contract.
+-- `rooms::fits` meets its contract.
 use borrow.Author.Tests.{le-leb, lt-leb}
-use Rattle.texts.specs.Cases.{fitsOf}
-use Rattle.texts.proofs.cases.fits.Statement.{statement}
-use Rattle.texts.proofs.cases.fits.Tie as tie
+use Rattle.rooms.specs.Rooms.{fitsOf}
+use Rattle.rooms.proofs.fits.Statement.{statement}
+use Rattle.rooms.proofs.fits.Tie as tie
 
 returns : tie.Need-returns
 unfolding fitsOf

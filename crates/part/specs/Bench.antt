@@ -1,0 +1,9 @@
+-- A part as it stands on the bench (document 01, What goes in and what comes out).
+use Prim.Native.Nat.{ℕ}
+use mathlib.Core.List.{List}
+use Rattle.part.specs.declared.state.State.{State}
+
+-- A part on the bench: its state, and the array beside it.
+pub record Part : Type 0 where
+  pub state : State
+  pub array : List ℕ
