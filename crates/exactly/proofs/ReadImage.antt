@@ -26,7 +26,7 @@ use Rattle.exactly.proofs.Lines.{three-ways, one-end}
 use Rattle.exactly.proofs.Cells.{Filled}
 use Rattle.exactly.proofs.Heard.{numbers, hear-twelve, hear-thirteen, hear-fourteen, hear-fifteen, hear-sixteen, hear-data, hear-end}
 use Rattle.exactly.proofs.Walk.{Walked, out, halt, walked}
-use Rattle.exactly.proofs.WriteImage.{decides-sized}
+use Rattle.exactly.proofs.WriteImage.{decides-sized, unsized-4096}
 
 -- Two readings that differ.
 other-bad : (k p j q : ℕ) → bad k p ≡ bad j q → (k ≡ j) × (p ≡ q)
@@ -371,6 +371,8 @@ pub read-image : ReadImage
 read-image =
     record {
       five = λ size text array p r array′ x. Iff·trans (says-refused r _ 5 p (x .reply)) (five size text array p);
+      five-4096 = λ text array p r array′ x.
+          Iff·trans (Iff·trans (says-refused r _ 5 p (x .reply)) (five 4096 text array p)) (unsized-4096 array p);
       eleven = λ size text array p r array′ x. Iff·trans (says-refused r _ 11 p (x .reply)) (eleven size text array p);
       twelve = λ size text array p r array′ x.
           Iff·trans (says-refused r _ 12 p (x .reply)) (by-lines size text array 12 p (omega arith) (twelve size text p));

@@ -17,7 +17,7 @@ use Rattle.image.specs.Promises.{sized, writeBy, writeVerdict}
 use Rattle.exactly.specs.ReadImage.{Sized}
 use Rattle.exactly.specs.WriteImage.{WriteImage}
 use Rattle.exactly.proofs.Decides.{Decides, holds, fails, decides-by, decides-le}
-use Rattle.exactly.proofs.Steps.{step, Above, above-accepted, above-step, stop, stopped, past, passed, says-refused}
+use Rattle.exactly.proofs.Steps.{step, Above, above-accepted, above-step, stop, stopped, past, passed, through, says-refused, says-accepted}
 
 -- An array of the size named.
 pub decides-sized : (size : ℕ) (array : List ℕ) → Decides (sized size (length array)) (Sized size array) (¬ Sized size array)
@@ -28,6 +28,10 @@ decides-sized size array =
     let t = and-split (eqb (length array) size) (leb size 4096) e in
     (eqb-true (length array) size (t .0), leb-true size 4096 (t .1)))
     (λ h. rw (eq-eqb (length array) size (h .0), le-leb size 4096 (h .1)))
+
+-- At 4,096 bytes only the array's length is asked.
+pub unsized-4096 : (array : List ℕ) (p : ℕ) → ((p ≡ 0) × ¬ Sized 4096 array) ↔ ((p ≡ 0) × ¬ (length array ≡ 4096))
+unsized-4096 array p = (λ h. (h .0, λ e. h .1 (e, omega arith)), λ h. (h .0, λ s. h .1 (s .0)))
 
 steps : (a b : Bool) (n : ℕ) → writeBy a b n ≡ step a 5 (step b 19 (accepted n))
 steps false b n = refl
@@ -65,6 +69,21 @@ module _ (size : ℕ) (array out : List ℕ) where
         ∙ stopped (leb (44 * (size / 16) + 12) (length out)) 19 p (accepted (lengthOf intel array)) (fails (decides-le (44 * (size / 16) + 12) (length out)) (h .2)) (h .0),
   )
 
+  taken : ((n : ℕ) × (writeVerdict intel size array out ≡ accepted n)) ↔ (Sized size array × (44 * (size / 16) + 12 ≤ length out))
+  taken = (
+    λ h.
+        let t = through (sized size (length array)) 5 (h .0) room (sym by-steps ∙ h .1) in
+        let u =
+        through (leb (44 * (size / 16) + 12) (length out)) 19 (h .0) (accepted (lengthOf intel array)) (t .1) in
+        (decides-sized size array .yes (t .0), decides-le (44 * (size / 16) + 12) (length out) .yes (u .0)),
+    λ h. (
+      lengthOf intel array,
+      by-steps
+          ∙ passed (sized size (length array)) 5 room (holds (decides-sized size array) (h .0))
+          ∙ passed (leb (44 * (size / 16) + 12) (length out)) 19 (accepted (lengthOf intel array)) (holds (decides-le (44 * (size / 16) + 12) (length out)) (h .1)),
+    ),
+  )
+
   no-other : (k p : ℕ) → writeVerdict intel size array out ≡ refused k p → (k ≡ 5) ⊎ (k ≡ 19)
   no-other k p e = go (sized size (length array)) (leb (44 * (size / 16) + 12) (length out)) (sym by-steps ∙ e)
     where
@@ -86,7 +105,13 @@ pub write-image : WriteImage
 write-image =
     record {
       five = λ size array out p r out′ x. Iff·trans (says-refused r _ 5 p (x .reply)) (five size array out p);
+      five-4096 = λ array out p r out′ x.
+          Iff·trans (Iff·trans (says-refused r _ 5 p (x .reply)) (five 4096 array out p)) (unsized-4096 array p);
       nineteen = λ array out p r out′ x. Iff·trans (says-refused r _ 19 p (x .reply)) (at-4096 array out p);
       nineteen-sized = λ size array out p r out′ x. Iff·trans (says-refused r _ 19 p (x .reply)) (nineteen size array out p);
+      accepted = λ size array out r out′ x. (
+        λ h. taken size array out .0 (h .0, says-accepted r _ (h .0) (x .reply) .0 (h .1)),
+        λ h. let t = taken size array out .1 h in (t .0, says-accepted r _ (t .0) (x .reply) .1 (t .1)),
+      );
       no-other = λ size array out k p r out′ x e. no-other size array out k p (says-refused r _ k p (x .reply) .0 e);
     }

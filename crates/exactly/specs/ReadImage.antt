@@ -24,9 +24,11 @@ pub record TextFits (size : ℕ) (text array : List ℕ) : Type 0 where
 
 -- Reading an image, by number (Refusal numbers, 5, 11 to 18).
 pub record ReadImage : Type 0 where
-  -- array length is not 4,096; of another size: not that size, or the size is none
+  -- array length is not the size named, or that is over 4,096; for 4,096: array length is not 4,096
   pub five : (size : ℕ) (text array : List ℕ) (p : ℕ) (r : Reply) (array′ : List ℕ) → ReadsImage intel size text array r array′
       → (r ≡ Refused 5 p) ↔ ((p ≡ 0) × ¬ Sized size array)
+  pub five-4096 : (text array : List ℕ) (p : ℕ) (r : Reply) (array′ : List ℕ) → ReadsImage intel 4096 text array r array′
+      → (r ≡ Refused 5 p) ↔ ((p ≡ 0) × ¬ (length array ≡ 4096))
   -- text over 65,536 bytes
   pub eleven : (size : ℕ) (text array : List ℕ) (p : ℕ) (r : Reply) (array′ : List ℕ) → ReadsImage intel size text array r array′
       → (r ≡ Refused 11 p) ↔ ((p ≡ 0) × Sized size array × (65536 < length text))
