@@ -1,7 +1,7 @@
 -- Tests that decide between two conditions. Assumes nothing.
 use Prim.Native.Nat.{ℕ, _≤_, _<_}
 use mathlib.Core.Bool.{Bool, true, false, true≢false}
-use mathlib.Core.Path.{_≡_, sym, _∙_}
+use mathlib.Core.Path.{_≡_, refl, sym, _∙_}
 use native.Mathlib.Omega.{arith}
 use lib.Dec.{eqb, leb}
 use borrow.Author.Tests.{eqb-true, eqb-false, leb-true, leb-false}
@@ -18,15 +18,15 @@ module _ {b : Bool} {A B : Type 0} (d : Decides b A B) where
   holds x = go b (d .yes) (d .no)
     where
       go : (c : Bool) → (c ≡ true → A) → (c ≡ false → B) → c ≡ true
-      go true y n = mathlib.Core.Path.refl
-      go false y n = absurd (d .apart x (n mathlib.Core.Path.refl))
+      go true y n = refl
+      go false y n = absurd (d .apart x (n refl))
 
   pub fails : B → b ≡ false
   fails x = go b (d .yes) (d .no)
     where
       go : (c : Bool) → (c ≡ true → A) → (c ≡ false → B) → c ≡ false
-      go true y n = absurd (d .apart (y mathlib.Core.Path.refl) x)
-      go false y n = mathlib.Core.Path.refl
+      go true y n = absurd (d .apart (y refl) x)
+      go false y n = refl
 
 -- A test that passes exactly where something holds.
 pub decides-by : {b : Bool} {A : Type 0} → (b ≡ true → A) → (A → b ≡ true) → Decides b A (¬ A)

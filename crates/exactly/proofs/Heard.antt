@@ -1,8 +1,8 @@
 -- What a line says to the reader, exactly when. Assumes nothing.
-use Prim.Native.Nat.{ℕ, _+_, _≤_, _<_}
+use Prim.Native.Nat.{ℕ, _≤_, _<_}
 use mathlib.Core.Bool.{Bool, true, false}
 use mathlib.Core.List.{List}
-use mathlib.Core.Logic.{_↔_, _⊎_, inl, inr}
+use mathlib.Core.Logic.{_↔_, inl, inr}
 use mathlib.Core.Path.{_≡_, refl, sym, _∙_}
 use native.Mathlib.Omega.{arith}
 use lib.Dec.{eqb}
@@ -11,9 +11,9 @@ use Rattle.cells.specs.Cells.{freshOf}
 use Rattle.hexfile.specs.Pairs.{sumsToZero}
 use Rattle.forms.specs.Reading.{Heard, gives, ends, faulty, saysBy, fitsIn, saysOf}
 use Rattle.intel.specs.Intel.{bytesOf, addressOf, typeOf, dataOf, wellFormed, typed, intel}
-use Rattle.exactly.specs.Records.{count, address, type, WellFormed, SumsRight, EndType, TypeTaken, Gives, Beyond}
+use Rattle.exactly.specs.Records.{type, WellFormed, SumsRight, EndType, TypeTaken, Gives, Beyond}
 use Rattle.exactly.specs.Faults.{Twice, GivesData}
-use Rattle.exactly.proofs.Decides.{Decides, holds, fails}
+use Rattle.exactly.proofs.Decides.{holds, fails}
 use Rattle.exactly.proofs.Records.{decides-formed, decides-sum, decides-type, decides-last, decides-within}
 use Rattle.exactly.proofs.Cells.{Filled, decides-fresh}
 

@@ -1,10 +1,9 @@
 -- The lines of a text by their places, and the lines that the reader goes through. Assumes nothing.
 use Prim.Native.Nat.{ℕ, zero, suc, _+_, _-_, _≤_, _<_}
-use native.Mathlib.Numerals.{add-one}
 use mathlib.Core.Bool.{Bool, true, false, cond}
 use mathlib.Core.List.{List, [], _∷_}
 use mathlib.Core.Logic.{_⊎_, inl, inr}
-use mathlib.Core.Path.{_≡_, refl, ap, sym, _∙_}
+use mathlib.Core.Path.{_≡_, refl, sym, _∙_}
 use native.Mathlib.Omega.{arith}
 use lib.Dec.{eqb, ltb}
 use lib.ListN.{length, getD, take, drop, length-drop}
@@ -12,7 +11,7 @@ use lib.Seq.{drop-drop, getD-drop}
 use borrow.Author.Tests.{eqb-true, eqb-false, ltb-true, ltb-false}
 use Rattle.lines.specs.Lines.{joinBy, linesOf, firstLine, trimBy, trimmed}
 use Rattle.lines.proofs.LineLaws.{first-take, first-length, lines-cons}
-use Rattle.exactly.specs.Lines.{Starts, Ends, LineAt, withoutReturn, charactersOf}
+use Rattle.exactly.specs.Lines.{Starts, Ends, LineAt, charactersOf}
 
 -- One of two numbers is less, or they are equal.
 pub three-ways : (a b : ℕ) → (a < b) ⊎ ((a ≡ b) ⊎ (b < a))

@@ -14,7 +14,7 @@ use Rattle.ground.proofs.Verdicts.{apart}
 use Rattle.refusals.specs.Refusals.{storable, powerBy, powerOf}
 use Rattle.exactly.specs.Words.{KnownPart, LatchBit}
 use Rattle.exactly.specs.PowerUp.{PowerUp}
-use Rattle.exactly.proofs.Decides.{Decides, holds, fails, decides-le}
+use Rattle.exactly.proofs.Decides.{holds, fails, decides-le}
 use Rattle.exactly.proofs.Words.{known-size, decides-part, decides-stored}
 use Rattle.exactly.proofs.Steps.{step, Above, above-accepted, above-step, most-accepted, most-step, stop, stopped, past, passed, through, says-refused, says-accepted}
 

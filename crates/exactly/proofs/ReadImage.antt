@@ -7,6 +7,7 @@ use mathlib.Core.Path.{_≡_, refl, ap, sym, _∙_}
 use native.Mathlib.Omega.{arith}
 use lib.Dec.{eqb, leb}
 use lib.ListN.{length, drop, length-drop, replicate}
+use borrow.Author.Tests.{leb-true, leb-false}
 use Rattle.ground.specs.Verdict.{Verdict, accepted, refused}
 use Rattle.ground.proofs.Verdicts.{apart}
 use Rattle.lines.specs.Lines.{linesOf}
@@ -17,10 +18,10 @@ use Rattle.intel.specs.Intel.{intel}
 use Rattle.reader.specs.Answers.{verdictOf}
 use Rattle.image.specs.Promises.{sized, imageBy, imageOf}
 use Rattle.exactly.specs.Lines.{LineAt, charactersOf}
-use Rattle.exactly.specs.Records.{type, WellFormed, SumsRight, EndType, TypeTaken, Beyond}
+use Rattle.exactly.specs.Records.{WellFormed, SumsRight, TypeTaken, Beyond}
 use Rattle.exactly.specs.Faults.{Twice, GivesData, AllGive, FirstAt, EndAt}
 use Rattle.exactly.specs.ReadImage.{Sized, TextFits, ReadImage}
-use Rattle.exactly.proofs.Decides.{Decides, holds, fails, decides-le}
+use Rattle.exactly.proofs.Decides.{holds, fails, decides-le}
 use Rattle.exactly.proofs.Steps.{step, Above, above-step, stop, stopped, past, passed, through, says-refused, says-accepted}
 use Rattle.exactly.proofs.Lines.{three-ways, one-end}
 use Rattle.exactly.proofs.Cells.{Filled}
@@ -55,9 +56,9 @@ module _ (size : ℕ) (text : List ℕ) where
       go : (b : Bool) → leb (length text) (e + 1) ≡ b → e + 1 < length text
       go true k =
           let m = length-drop (e + 1) text in
-          let z : length (drop (e + 1) text) ≡ 0 = omega (arith, borrow.Author.Tests.leb-true (length text) (e + 1) k) in
+          let z : length (drop (e + 1) text) ≡ 0 = omega (arith, leb-true (length text) (e + 1) k) in
           absurd (h (lines-none (drop (e + 1) text) z))
-      go false k = borrow.Author.Tests.leb-false (length text) (e + 1) k
+      go false k = leb-false (length text) (e + 1) k
 
   -- The line that the reader stopped at, what it heard there, and what it said then.
   pub record Halted (p e : ℕ) (h : Heard) : Type 0 where

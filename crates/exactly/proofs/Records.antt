@@ -1,13 +1,12 @@
 -- The tests of a line in Intel's form decide the paper's conditions on its characters. Assumes nothing.
 use Prim.Native.Nat.{ℕ, zero, suc, _+_, _*_, _-_, _%_, _≤_, _<_}
-use native.Mathlib.Numerals.{add-one}
-use mathlib.Core.Bool.{Bool, true, false, _&&_, _||_, cond, true≢false}
-use mathlib.Core.List.{List, [], _∷_, _++_}
-use mathlib.Core.Logic.{_⊎_, inl, inr}
-use mathlib.Core.Path.{_≡_, refl, ap, sym, _∙_}
+use mathlib.Core.Bool.{Bool, true, false, _||_, true≢false}
+use mathlib.Core.List.{List, [], _∷_}
+use mathlib.Core.Logic.{inl, inr}
+use mathlib.Core.Path.{_≡_, refl, sym, _∙_}
 use native.Mathlib.Omega.{arith}
 use lib.Dec.{eqb, leb}
-use lib.ListN.{length, getD, take, drop, length-drop, length-append}
+use lib.ListN.{length, getD, take, drop, length-drop}
 use lib.Seq.{take-suc, take-all, getD-drop, getD-take, length-take-le}
 use borrow.Author.Tests.{eqb-true, eqb-false, eq-eqb, ne-eqb, leb-true, leb-false, le-leb, lt-leb}
 use Rattle.ground.proofs.Tests.{and-split}
@@ -17,8 +16,8 @@ use Rattle.hexfile.specs.Pairs.{pairOf, paired, pairsOf, sumOf, sumsToZero}
 use Rattle.hexfile.proofs.PairLaws.{pair-split, length-pairsOf, sum-append}
 use Rattle.forms.specs.Reading.{fitsIn}
 use Rattle.intel.specs.Intel.{bytesOf, countOf, addressOf, typeOf, dataOf, wellFormed, typeBy, typed}
-use Rattle.exactly.specs.Records.{Digit, valueAt, byteAt, count, address, type, WellFormed, sumTo, SumsRight, EndType, TypeTaken, Gives, Beyond}
-use Rattle.exactly.proofs.Decides.{Decides, holds, fails, decides-by, decides-eq}
+use Rattle.exactly.specs.Records.{Digit, valueAt, byteAt, count, address, type, WellFormed, sumTo, SumsRight, TypeTaken, Beyond}
+use Rattle.exactly.proofs.Decides.{Decides, decides-by, decides-eq}
 
 -- Digits and their values.
 is-digit : (c : ℕ) → isDigit c ≡ true → Digit c

@@ -5,7 +5,7 @@ use mathlib.Core.List.{List, [], _∷_, _++_, append-assoc}
 use mathlib.Core.Path.{_≡_, refl, ap, sym, _∙_}
 use native.Mathlib.Omega.{arith}
 use lib.Dec.{eqb, leb, ltb}
-use lib.ListN.{getD, take, drop}
+use lib.ListN.{length, getD, take, drop}
 use borrow.Author.Tests.{ltb-true, ltb-false, lt-ltb, le-leb, ne-eqb}
 use Rattle.digits.specs.Digits.{glyphOf}
 use Rattle.cells.specs.Cells.{blankOf}
@@ -113,6 +113,6 @@ rows-first (suc n) address bs = go (blankOf (take 16 bs)) (rows-first n (address
 pub no-line : (array : List ℕ) (k p : ℕ) → imageText intel array ≡ refusalLine k p → ⊥
 unfolding imageText
 no-line array k p e =
-    let f = rows-first (lib.ListN.length array / 16) 0 array in
+    let f = rows-first (length array / 16) 0 array in
     let g = ap (λ (l : List ℕ). getD l 0 0) e in
     omega (arith, line-first k p, f, g)

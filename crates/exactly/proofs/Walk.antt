@@ -1,16 +1,16 @@
 -- The reader goes from line to line and stops at the first that is not a faultless line of data. Assumes nothing.
 use Prim.Native.Nat.{ℕ, zero, suc, _+_, _≤_, _<_}
 use mathlib.Core.Bool.{Bool, true, false}
-use mathlib.Core.List.{List, [], _∷_}
+use mathlib.Core.List.{List}
 use mathlib.Core.Logic.{_⊎_, inl, inr}
-use mathlib.Core.Path.{_≡_, refl, ap, sym, _∙_}
+use mathlib.Core.Path.{_≡_, refl, _∙_}
 use native.Mathlib.Omega.{arith}
 use lib.Dec.{eqb, leb}
 use lib.ListN.{length, drop, replicate, drop-of-length-le}
 use borrow.Author.Tests.{leb-true, leb-false}
-use Rattle.lines.specs.Lines.{linesOf, trimmed}
+use Rattle.lines.specs.Lines.{linesOf}
 use Rattle.cells.specs.Cells.{notGiven}
-use Rattle.forms.specs.Reading.{Heard, gives, ends, faulty, saysOf, givenOf, Reading, taken, bad, lineBy, linesRead}
+use Rattle.forms.specs.Reading.{Heard, gives, ends, faulty, saysOf, givenOf, Reading, bad, lineBy, linesRead}
 use Rattle.intel.specs.Intel.{intel}
 use Rattle.exactly.specs.Lines.{Starts, LineAt, charactersOf}
 use Rattle.exactly.specs.Faults.{GivesData, AllGive}

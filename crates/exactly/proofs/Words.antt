@@ -1,11 +1,11 @@
 -- The tests of parts, stored bytes and states decide the paper's conditions. Assumes nothing.
-use Prim.Native.Nat.{ℕ, _/_, _%_, _≤_, _<_}
-use mathlib.Core.Bool.{Bool, true, false, _&&_, true≢false}
-use mathlib.Core.Logic.{_⊎_, inl, inr, ⊎-elim}
-use mathlib.Core.Path.{_≡_, refl, sym, _∙_}
+use Prim.Native.Nat.{ℕ, _/_, _%_, _<_}
+use mathlib.Core.Bool.{Bool, true, false, true≢false}
+use mathlib.Core.Logic.{inl, inr}
+use mathlib.Core.Path.{_≡_, refl, sym}
 use native.Mathlib.Omega.{arith}
 use lib.Dec.{eqb, leb, ltb}
-use borrow.Author.Tests.{eqb-true, leb-true, ltb-true, eq-eqb, ne-eqb, le-leb, lt-ltb}
+use borrow.Author.Tests.{eqb-true, eqb-false, leb-true, ltb-true, le-leb, lt-ltb}
 use Rattle.ground.specs.Kind.{kindBy, kindOf, known}
 use Rattle.ground.proofs.Tests.{and-split}
 use Rattle.part.specs.declared.state.State.{State}
@@ -48,7 +48,7 @@ some-latch v n = go (eqb (v / 2 % 2) 1) refl
     go : (b : Bool) → eqb (v / 2 % 2) 1 ≡ b → LatchBit v
     go true e = inl (eqb-true (v / 2 % 2) 1 e)
     go false e =
-        let h : ¬ (v / 2 % 2 ≡ 1) = borrow.Author.Tests.eqb-false (v / 2 % 2) 1 e in
+        let h : ¬ (v / 2 % 2 ≡ 1) = eqb-false (v / 2 % 2) 1 e in
         let q : v / 4 ≡ v / 2 / 2 = omega arith in
         inr (rw q (halves (v / 2) n h))
 
@@ -56,7 +56,7 @@ pub decides-stored : (v : ℕ) → Decides (storable v) (¬ LatchBit v) (LatchBi
 decides-stored v =
     record {
       yes = λ e. no-latch v (eqb-true (v / 2 % 4) 0 e);
-      no = λ e. some-latch v (borrow.Author.Tests.eqb-false (v / 2 % 4) 0 e);
+      no = λ e. some-latch v (eqb-false (v / 2 % 4) 0 e);
       apart = λ n h. n h;
     }
 
