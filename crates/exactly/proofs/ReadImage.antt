@@ -383,6 +383,8 @@ read-image =
           Iff·trans (says-refused r _ 14 p (x .reply)) (by-lines size text array 14 p (omega arith) (fourteen size text p));
       fifteen = λ size text array p r array′ x.
           Iff·trans (says-refused r _ 15 p (x .reply)) (by-lines size text array 15 p (omega arith) (fifteen size text p));
+      fifteen-4096 = λ text array p r array′ x.
+          Iff·trans (says-refused r _ 15 p (x .reply)) (by-lines 4096 text array 15 p (omega arith) (fifteen 4096 text p));
       sixteen = λ size text array p r array′ x.
           Iff·trans (says-refused r _ 16 p (x .reply)) (by-lines size text array 16 p (omega arith) (sixteen size text p));
       seventeen = λ size text array p r array′ x.

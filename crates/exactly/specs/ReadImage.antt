@@ -10,7 +10,7 @@ use Rattle.ground.specs.declared.Reply.{Reply}
 use Rattle.ground.specs.declared.Reply.the-variants.{Accepted, Refused}
 use Rattle.intel.specs.Intel.{intel}
 use Rattle.image.specs.Promises.{ReadsImage}
-use Rattle.exactly.specs.Records.{WellFormed, SumsRight, TypeTaken, Beyond}
+use Rattle.exactly.specs.Records.{WellFormed, SumsRight, TypeTaken, Gives, Beyond}
 use Rattle.exactly.specs.Faults.{Twice, AllGive, FirstAt, EndAt}
 
 -- An array of the size named, and a size of a part (Refusal numbers, 5).
@@ -43,11 +43,17 @@ pub record ReadImage : Type 0 where
   pub fourteen : (size : ℕ) (text array : List ℕ) (p : ℕ) (r : Reply) (array′ : List ℕ) → ReadsImage intel size text array r array′
       → (r ≡ Refused 14 p)
       ↔ (TextFits size text array × ((e : ℕ) × FirstAt size text p e (λ l. WellFormed l × SumsRight l × ¬ TypeTaken l)))
-  -- data beyond 0FFFh; same place
+  -- data beyond the last place, for 4,096 bytes 0FFFh; same place
   pub fifteen : (size : ℕ) (text array : List ℕ) (p : ℕ) (r : Reply) (array′ : List ℕ) → ReadsImage intel size text array r array′
       → (r ≡ Refused 15 p)
       ↔ (TextFits size text array
       × ((e : ℕ) × FirstAt size text p e (λ l. WellFormed l × SumsRight l × TypeTaken l × Beyond size l)))
+  pub fifteen-4096 : (text array : List ℕ) (p : ℕ) (r : Reply) (array′ : List ℕ) → ReadsImage intel 4096 text array r array′
+      → (r ≡ Refused 15 p)
+      ↔ (TextFits 4096 text array
+      × ((e : ℕ)
+      × FirstAt 4096 text p e
+      (λ l. WellFormed l × SumsRight l × TypeTaken l × ((a : ℕ) × Gives l a × (0x0FFF < a)))))
   -- an address given twice; same place, later line
   pub sixteen : (size : ℕ) (text array : List ℕ) (p : ℕ) (r : Reply) (array′ : List ℕ) → ReadsImage intel size text array r array′
       → (r ≡ Refused 16 p)
