@@ -4,6 +4,8 @@ use Rattle.demand3_runs.proofs.Witness.{occurs}
 use Rattle.bent_steps.proofs.Bends.{bent-steps}
 use Rattle.chip_claims.proofs.Chip.{demand-3, replay-demand-3, power-demand-3, computed-form, reachable-states, handed-out, stays-fit, fit-again, cut-anywhere, at-runs}
 use Rattle.image_claims.proofs.Images.{round-trips, intel-trips, lengths, write-then-read, door-trip, tidies, tidy-twice, room-enough, at-paper}
+use Rattle.exactly.proofs.Exactly.{exactly}
+use Rattle.exactly.proofs.Causes.{no-refusal-without-cause}
 use Rattle.claims.specs.AtInputs.{RefusedAt, OneAt}
 use Rattle.claims.specs.Claims.{Claims}
 use Rattle.claims.proofs.Demand1.{demand-1}
@@ -49,5 +51,7 @@ claims =
       at-paper = at-paper;
       one-reply = one-reply;
       one-at = one-at;
+      exactly = exactly;
+      no-refusal-without-cause = no-refusal-without-cause;
       bench-cases = bench-cases;
     }

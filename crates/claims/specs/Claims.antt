@@ -9,6 +9,8 @@ use Rattle.chip_claims.specs.States.{ReachableStates, HandedOut, StaysFit, FitA
 use Rattle.chip_claims.specs.AtRuns.{AtRuns}
 use Rattle.image_claims.specs.Images.{RoundTrips, IntelTrips, Lengths, WriteThenRead, DoorTrip, Tidies, TidyTwice, RoomEnough}
 use Rattle.image_claims.specs.AtPaper.{AtPaper}
+use Rattle.exactly.specs.Exactly.{Exactly}
+use Rattle.exactly.specs.Causes.{NoRefusalWithoutCause}
 use Rattle.claims.specs.Demand1.{Demand1}
 use Rattle.claims.specs.OneReply.{OneReply}
 use Rattle.claims.specs.AtInputs.{RefusedAt, OneAt}
@@ -54,5 +56,8 @@ pub record Claims : Type 0 where
   -- For each public operation and every input there is only one possible reply.
   pub one-reply : OneReply
   pub one-at : OneAt
-  -- P1 to P11.
+  -- For each refusal number exactly when it is the reply, and no refusal without cause.
+  pub exactly : Exactly
+  pub no-refusal-without-cause : NoRefusalWithoutCause
+  -- P1 to P11, and cases that were worked by hand.
   pub bench-cases : BenchCases

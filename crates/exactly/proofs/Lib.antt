@@ -1,0 +1,16 @@
+pub mod Decides
+pub mod Words
+pub mod Steps
+pub mod PowerUp
+pub mod Samples
+pub mod Replay
+pub mod WriteImage
+pub mod Lines
+pub mod Records
+pub mod Cells
+pub mod Heard
+pub mod Walk
+pub mod ReadImage
+pub mod Exactly
+pub mod RefusalLine
+pub mod Causes

@@ -1,0 +1,10 @@
+pub mod Words
+pub mod PowerUp
+pub mod Replay
+pub mod Lines
+pub mod Records
+pub mod Faults
+pub mod ReadImage
+pub mod WriteImage
+pub mod Exactly
+pub mod Causes

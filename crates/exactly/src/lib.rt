@@ -1,0 +1,1 @@
+// No function: for each refusal number, exactly when it is the reply. specs/ says it, proofs/ shows it.
