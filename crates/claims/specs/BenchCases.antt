@@ -1,11 +1,12 @@
 -- The bench cases in one list (document 01, Bench cases): those of captures, said of a part that has just been powered up; those of the
--- lock, said of every kind of part; those of images. P1 to P11 are the paper's; S1 to S13 are worked by hand from its rules.
+-- lock, said of every kind of part; those of images. P1 to P11 are the paper's; S1 to S14 are worked by hand from its rules.
 use Rattle.ground.specs.declared.kinds.Kind.{Kind}
 use Rattle.run_cases.specs.RunCases.{P1, P5, P6, P7, P8, P9}
 use Rattle.lock_cases.specs.LockCases.{P2, P3, P4, S10, S11, S12, S13}
 use Rattle.sheet_cases.specs.ReadCases.{S1, S2, S3}
 use Rattle.sheet_cases.specs.WatchCases.{S4, S5}
 use Rattle.sheet_cases.specs.LatchCases.{S6, S7, S8, S9}
+use Rattle.sheet_cases.specs.BlockCases.{S14}
 use Rattle.image_cases.specs.ImageCases.{P10, P11}
 
 -- The bench cases in one list, P1 to P9 for both parts where a part is asked, S1 to S9 where the RESET pin matters (Bench cases).
@@ -34,3 +35,4 @@ pub record BenchCases : Type 0 where
   pub s11 : (k : Kind) → S11 k
   pub s12 : (k : Kind) → S12 k
   pub s13 : (k : Kind) → S13 k
+  pub s14 : S14
