@@ -1,6 +1,6 @@
 -- The bench cases of the block lock: which places a code locks, and that a data byte there is left without acknowledge and is not kept. For
 -- every kind of part, since codes 0 to 2 and 4 to 7 lock the same pages of each. No axiom is used.
-use Prim.Native.Nat.{ℕ, _<_, _/_}
+use Prim.Native.Nat.{ℕ}
 use mathlib.Core.Bool.{Bool, true, false, not}
 use mathlib.Core.Path.{_≡_, refl}
 use native.Mathlib.Omega.{arith}

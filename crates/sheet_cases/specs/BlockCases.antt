@@ -1,7 +1,7 @@
 -- Worked cases of the block lock on the bus (document 01, Control register; Bytes on the wire, array data), said of an X4323 that has just
 -- been powered up with select 0, a stored byte and an array all FFh. Every number is the paper's, written out.
 use Prim.Native.Nat.{ℕ, _-_}
-use mathlib.Core.List.{List, [], _∷_, _++_}
+use mathlib.Core.List.{[], _∷_, _++_}
 use mathlib.Core.Path.{_≡_}
 use lib.ListN.{replicate}
 use Rattle.sheet_cases.specs.ReadCases.{written}
