@@ -9,9 +9,9 @@ unfolding opened
 s14 =
     record {
       two = record { taken = refl; answer = refl; array = refl };
-      three = (record { taken = refl; answer = refl; array = refl }, record { taken = refl; answer = refl; array = refl });
-      four = (record { taken = refl; answer = refl; array = refl }, record { taken = refl; answer = refl; array = refl });
-      five = (record { taken = refl; answer = refl; array = refl }, record { taken = refl; answer = refl; array = refl });
-      six = (record { taken = refl; answer = refl; array = refl }, record { taken = refl; answer = refl; array = refl });
-      seven = (record { taken = refl; answer = refl; array = refl }, record { taken = refl; answer = refl; array = refl });
+      three = (record { taken = refl; answer = refl; array = refl; counter = refl }, record { taken = refl; answer = refl; array = refl; counter = refl });
+      four = (record { taken = refl; answer = refl; array = refl; counter = refl }, record { taken = refl; answer = refl; array = refl });
+      five = (record { taken = refl; answer = refl; array = refl; counter = refl }, record { taken = refl; answer = refl; array = refl });
+      six = (record { taken = refl; answer = refl; array = refl; counter = refl }, record { taken = refl; answer = refl; array = refl });
+      seven = (record { taken = refl; answer = refl; array = refl; counter = refl }, record { taken = refl; answer = refl; array = refl });
     }

@@ -4,14 +4,17 @@ use Prim.Native.Nat.{ℕ, _-_}
 use mathlib.Core.List.{[], _∷_, _++_}
 use mathlib.Core.Path.{_≡_}
 use lib.ListN.{replicate}
+use Rattle.page.specs.Page.{at}
 use Rattle.sheet_cases.specs.ReadCases.{written}
 use Rattle.runs.specs.Bench.{blank, partAt, answersAt, AcceptedAt, lastAnswers}
 
--- 5Ah sent to a locked place after 02h: SDA stays high, no write time runs, and the array stays (Bytes on the wire, array data).
+-- 5Ah sent to a locked place after 02h: SDA stays high, no write time runs, the array stays and so does the counter (Bytes on the wire,
+-- array data).
 pub record Refused (stored place : ℕ) : Type 0 where
   pub taken : AcceptedAt (blank 4323 stored) (written place)
   pub answer : lastAnswers 7 (answersAt (blank 4323 stored) (written place)) ≡ 3 ∷ 3 ∷ 3 ∷ 3 ∷ 3 ∷ 3 ∷ 3 ∷ []
   pub array : partAt (blank 4323 stored) (written place) .array ≡ replicate 4096 0xFF
+  pub counter : partAt (blank 4323 stored) (written place) .state .device .counter ≡ at place
 
 -- 5Ah sent to any other place: SDA is low from the eighth fall to the ninth, the write time runs from the stop on, and the byte is there.
 pub record Stored (stored place : ℕ) : Type 0 where
