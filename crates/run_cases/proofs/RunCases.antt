@@ -1,6 +1,5 @@
 -- The bench cases of captures: what a part that is powered up answers and holds after the traffic of each case. No axiom is used.
 use mathlib.Core.Path.{refl}
-use Rattle.ground.specs.Numbers.{x4323, x4325}
 use Rattle.runs.proofs.Opened.{opened}
 use Rattle.run_cases.specs.RunCases.{P1, P5, P6, P7, P8, P9}
 
@@ -10,7 +9,7 @@ unfolding opened
 p1 = record { taken = (refl, refl); low = refl; high = refl }
 
 -- P5: page wrap.
-pub p5 : P5 x4323 × P5 x4325
+pub p5 : P5 4323 × P5 4325
 unfolding opened
 p5 = (
   record { taken = (refl, refl); page = refl; counter = refl; next = refl; steps = refl },
@@ -18,7 +17,7 @@ p5 = (
 )
 
 -- P6: slave bytes.
-pub p6 : P6 x4323 2 3 × P6 x4325 0 1
+pub p6 : P6 4323 2 3 × P6 4325 0 1
 unfolding opened
 p6 = (
   record { taken = (refl, refl, refl, refl); writes = refl; reads = refl; select = refl; code = refl },
@@ -26,7 +25,7 @@ p6 = (
 )
 
 -- P7: the three register steps.
-pub p7 : P7 x4323 × P7 x4325
+pub p7 : P7 4323 × P7 4325
 unfolding opened
 p7 = (
   record { watchdog = refl; block = refl; reads = refl; taken = refl; bus = refl },
@@ -34,7 +33,7 @@ p7 = (
 )
 
 -- P8: a third byte that changes nothing.
-pub p8 : P8 x4323 × P8 x4325
+pub p8 : P8 4323 × P8 4325
 unfolding opened
 p8 = (
   record { taken = refl; before = refl; same = refl; time = refl; array = refl },
@@ -42,6 +41,6 @@ p8 = (
 )
 
 -- P9: write time.
-pub p9 : P9 x4323 7 3 × P9 x4325 5 1
+pub p9 : P9 4323 7 3 × P9 4325 5 1
 unfolding opened
 p9 = (record { taken = refl; last = refl }, record { taken = refl; last = refl })

@@ -1,37 +1,30 @@
 -- The bench cases of captures (document 01, Bench cases, P1 and P5 to P9). They are said of a part that has just been powered up, with
 -- select 0, stored byte 00h and an array all FFh, WP low throughout: what it answers and holds after traffic that a replay accepts.
-use Prim.Native.Nat.{ℕ, _-_, _%_}
+use Prim.Native.Nat.{ℕ}
 use mathlib.Core.Bool.{true, false}
 use mathlib.Core.List.{List, [], _∷_, _++_}
 use mathlib.Core.Path.{_≡_}
-use lib.ListN.{length, drop, replicate}
-use Rattle.ground.specs.Numbers.{x4323, x4325, writeTime, registerAddress}
-use Rattle.ground.specs.Kind.{kindOf}
+use lib.ListN.{replicate}
 use Rattle.lock.specs.Lock.{blockCode}
 use Rattle.timers.specs.Timers.{watchCode}
 use Rattle.page.specs.Page.{at}
 use Rattle.part.specs.declared.state.Control.{Control}
 use Rattle.control.specs.Register.{readsOf}
-use Rattle.power.specs.Power.{atPower}
 use Rattle.sample.specs.Run.{Part}
-use Rattle.waves.specs.Waves.{Capture, joined, brisk, wait, awake, start, sent, pageWrite, registerWrite, readFrom}
-use Rattle.runs.specs.Runs.{partAfter, answersTo, Taken}
-
--- A part at power-up, with select 0, stored byte 00h and an array all FFh (State and time, power-up).
-abbrev pub fresh : ℕ → Part
-fresh part = atPower part 0 0 (replicate (kindOf part .size) 0xFF)
+use Rattle.waves.specs.Waves.{Capture, brisk, wait, start, sent, pageWrite, readFrom}
+use Rattle.runs.specs.Bench.{blank, partAt, answersAt, AcceptedAt, opening, registerByte, lastAnswers, clockedBits}
 
 -- Such a part after captures, one after the other (State and time, each sample).
 abbrev pub partOf : ℕ → List Capture → Part
-partOf part cs = partAfter (joined cs) (fresh part)
+partOf part cs = partAt (blank part 0) cs
 
 -- Its answers, a byte for each sample (What goes in and what comes out).
 abbrev pub answers : ℕ → List Capture → List ℕ
-answers part cs = answersTo (joined cs) (fresh part)
+answers part cs = answersAt (blank part 0) cs
 
 -- A replay takes them (Refusal numbers, 4 to 10).
 abbrev pub Accepted : ℕ → List Capture → Type 0
-Accepted part cs = Taken (joined cs) (fresh part)
+Accepted part cs = AcceptedAt (blank part 0) cs
 
 -- Four samples of good VCC: the first, then 100,000 + 99,999, then 1 (State and time, 1 and 2).
 abbrev pub heldReset : List Capture
@@ -39,19 +32,15 @@ heldReset = wait 100000 ∷ wait 100000 ∷ wait 99999 ∷ wait 1 ∷ []
 
 -- After the first good-VCC sample 100,000 + 99,999 keeps reset, and 1 more ends it: the bit of the RESET pin (Bench cases, P1).
 pub record P1 : Type 0 where
-  pub taken : Accepted x4323 heldReset × Accepted x4325 heldReset
-  pub low : answers x4323 heldReset ≡ 1 ∷ 1 ∷ 1 ∷ 3 ∷ []
-  pub high : answers x4325 heldReset ≡ 3 ∷ 3 ∷ 3 ∷ 1 ∷ []
-
--- The last so many answers of a row.
-abbrev pub lastAnswers : ℕ → List ℕ → List ℕ
-lastAnswers n row = drop (length row - n) row
+  pub taken : Accepted 4323 heldReset × Accepted 4325 heldReset
+  pub low : answers 4323 heldReset ≡ 1 ∷ 1 ∷ 1 ∷ 3 ∷ []
+  pub high : answers 4325 heldReset ≡ 3 ∷ 3 ∷ 3 ∷ 1 ∷ []
 
 -- Twelve bytes from an address on, with WEL set before (Bytes on the wire, array data).
 abbrev pub twelve : ℕ → List Capture
 twelve address =
-    awake
-    ++ brisk (registerWrite 0 2)
+    opening
+    ++ brisk (registerByte 2)
     ∷ brisk (pageWrite 0 address (1 ∷ 2 ∷ 3 ∷ 4 ∷ 5 ∷ 6 ∷ 7 ∷ 8 ∷ 9 ∷ 10 ∷ 11 ∷ 12 ∷ []))
     ∷ []
 
@@ -69,7 +58,7 @@ pub record P5 (part : ℕ) : Type 0 where
 
 -- A start and a slave byte (Bytes on the wire, after a start).
 abbrev pub calls : ℕ → List Capture
-calls v = awake ++ brisk (start ++ sent v) ∷ []
+calls v = opening ++ brisk (start ++ sent v) ∷ []
 
 -- The last four answers to it: from its eighth fall to its ninth, which ends the acknowledge; after A1h the first bit of FFh is out.
 abbrev pub toSlave : ℕ → ℕ → List ℕ
@@ -85,18 +74,11 @@ pub record P6 (part low high : ℕ) : Type 0 where
 
 -- Three register bytes, each with its start and stop (Control register).
 abbrev pub three : ℕ → ℕ → ℕ → List Capture
-three u v w = awake ++ brisk (registerWrite 0 u) ∷ brisk (registerWrite 0 v) ∷ brisk (registerWrite 0 w) ∷ []
+three u v w = opening ++ brisk (registerByte u) ∷ brisk (registerByte v) ∷ brisk (registerByte w) ∷ []
 
 -- The register chosen and read once the write time is over; the last 30 answers are its byte, the ninth clock and the stop's (Bytes on the wire).
 abbrev pub readsRegister : List Capture
-readsRegister = wait writeTime ∷ brisk (readFrom 0 registerAddress 1) ∷ []
-
--- The SDA bit of each answer in the middle of three, where SCL is high.
-abbrev pub clockedBits : List ℕ → List ℕ
-clockedBits (a ∷ b ∷ c ∷ row) = b % 2 ∷ clockedBits row
-clockedBits [] = []
-clockedBits (a ∷ []) = []
-clockedBits (a ∷ b ∷ []) = []
+readsRegister = wait 5000 ∷ brisk (readFrom 0 0xFFFF 1) ∷ []
 
 -- 02h, 06h, 63h gives WD 11 and BP 100; the register then reads 63h, on the bus too (Bench cases, P7).
 pub record P7 (part : ℕ) : Type 0 where
@@ -114,14 +96,14 @@ latched = record { stored = 0; wel = true; rwel = true; chosen = false; pending 
 -- 67h as third byte changes nothing: as after 02h and 06h, RWEL stays, and no write time runs (Bench cases, P8).
 pub record P8 (part : ℕ) : Type 0 where
   pub taken : Accepted part (three 0x02 0x06 0x67)
-  pub before : partOf part (awake ++ brisk (registerWrite 0 0x02) ∷ brisk (registerWrite 0 0x06) ∷ []) .state .device .control ≡ latched
+  pub before : partOf part (opening ++ brisk (registerByte 0x02) ∷ brisk (registerByte 0x06) ∷ []) .state .device .control ≡ latched
   pub same : partOf part (three 0x02 0x06 0x67) .state .device .control ≡ latched
   pub time : partOf part (three 0x02 0x06 0x67) .state .timers .write ≡ 0
-  pub array : partOf part (three 0x02 0x06 0x67) .array ≡ replicate (kindOf part .size) 0xFF
+  pub array : partOf part (three 0x02 0x06 0x67) .array ≡ replicate 4096 0xFF
 
 -- A byte written, then 4,999 and 1 more (Bytes on the wire, stop).
 abbrev pub written5000 : List Capture
-written5000 = awake ++ brisk (registerWrite 0 2) ∷ brisk (pageWrite 0 0 (1 ∷ [])) ∷ wait 4999 ∷ wait 1 ∷ []
+written5000 = opening ++ brisk (registerByte 2) ∷ brisk (pageWrite 0 0 (1 ∷ [])) ∷ wait 4999 ∷ wait 1 ∷ []
 
 -- The write time ends at 5,000, not at 4,999: `writing` is the answer byte while it runs, `done` after it (Bench cases, P9).
 pub record P9 (part writing done : ℕ) : Type 0 where
