@@ -10,11 +10,10 @@ use Rattle.ground.specs.Verdict.{Verdict, accepted, refused}
 use Rattle.ground.proofs.Verdicts.{apart}
 use Rattle.refusals.specs.Refusals.{storable, powerBy, powerOf, judgedOf}
 use Rattle.refusals.proofs.Laws.{rows-equal}
-use Rattle.power.specs.Power.{poweredUp}
-use Rattle.sample.specs.Run.{Part, runOf}
-use Rattle.twin.specs.Promises.{partAfter}
+use Rattle.power.specs.Power.{poweredUp, atPower}
+use Rattle.sample.specs.Run.{Part, runOf, partAfter}
 use Rattle.ranges.specs.Fit.{Fit}
-use Rattle.reachable.specs.Reachable.{atPower, Reachable, Keeps}
+use Rattle.reachable.specs.Reachable.{Reachable, Keeps}
 use Rattle.demand2.specs.Demand2.{Demand2}
 use Rattle.demand2.proofs.Judged.{judged-fit}
 use Rattle.demand3.specs.Differ.{TwoParts}

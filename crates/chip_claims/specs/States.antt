@@ -14,7 +14,8 @@ use Rattle.power.specs.Promises.{PowersUp}
 use Rattle.sample.specs.Run.{Part, runOf}
 use Rattle.twin.specs.Promises.{Replays}
 use Rattle.ranges.specs.Fit.{Fit}
-use Rattle.reachable.specs.Reachable.{atPower, Reachable, Keeps, Holds}
+use Rattle.power.specs.Power.{atPower}
+use Rattle.reachable.specs.Reachable.{Reachable, Keeps, Holds}
 use Rattle.demand2.specs.Demand2.{Accepts, Joined}
 use Rattle.chip_claims.specs.Demand3.{over}
 

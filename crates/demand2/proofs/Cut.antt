@@ -15,7 +15,7 @@ use Rattle.power.specs.declared.Replayed.{Replayed}
 use Rattle.sample.specs.Run.{Part, runOf}
 use Rattle.twin.specs.Promises.{Replays}
 use Rattle.demand2.specs.Demand2.{Accepts, ByRules, Joined, Demand2}
-use Rattle.demand2.proofs.Judged.{judged-passed}
+use Rattle.refusals.proofs.Laws.{judged-passed}
 
 module _ (d : Demand2) (s : State) (es ls array row row₁ row₂ : List ℕ) (k m : ℕ) (r r₁ r₂ : Replayed)
     (array′ array₁ array₂ said said₁ said₂ : List ℕ) where

@@ -24,7 +24,7 @@ use Rattle.power.specs.declared.Replayed.{Replayed}
 use Rattle.sample.specs.Run.{Part, partStep, runOf, answersOf}
 use Rattle.twin.specs.Promises.{Replays, Runs}
 use Rattle.demand2.specs.Demand2.{ByRules, Pieces, Counted, Demand2}
-use Rattle.demand2.proofs.Judged.{judged-passed, judged-fit}
+use Rattle.demand2.proofs.Judged.{judged-fit}
 use Rattle.ranges.specs.Fit.{Fit}
 use Rattle.ranges.proofs.InRange.{run-fit}
 

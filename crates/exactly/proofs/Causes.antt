@@ -12,7 +12,10 @@ use Rattle.ground.specs.Kind.{kindOf, known}
 use Rattle.ground.specs.Size.{sizeMeant, sizeBy}
 use Rattle.ground.specs.Verdict.{Verdict, accepted, refused}
 use Rattle.ground.proofs.Verdicts.{apart}
-use Rattle.refusals.specs.Refusals.{powerOf, judgedOf}
+use Rattle.refusals.specs.Refusals.{powerOf, judgedOf, captureOf}
+use Rattle.entries.specs.Entries.{Placed}
+use Rattle.transfers.specs.Transfers.{entriesOf}
+use Rattle.transfers.specs.Promises.{listedBy}
 use Rattle.power.specs.Power.{poweredUp}
 use Rattle.forms.specs.Reading.{Reading, taken, bad, readingOf}
 use Rattle.intel.specs.Intel.{intel}
@@ -70,12 +73,19 @@ tidy-cause size text out r out′ k p x e =
     let t : take r out′ ≡ s = ap (take r) (x .shown) ∙ take-at s (drop r out) r (sym (x .count)) in
     shown-cause (imageBy (leb size largestSize) (readingOf intel size text)) k p (sym t ∙ e)
 
+-- The list refuses where its capture's verdict does.
+list-cause : (v : Verdict) (xs : List Placed) (k p : ℕ) → listedBy v xs ≡ refused k p → v ≡ refused k p
+list-cause (accepted n) xs k p e = absurd (apart k p (length xs) (sym e))
+list-cause (refused a b) xs k p e = e
+
 -- The claim.
 pub no-refusal-without-cause : NoRefusalWithoutCause
 no-refusal-without-cause =
     record {
       power-up = λ part select stored r k p x e. sym (x .reply) ∙ e;
       replay = λ s es ls array row r array′ row′ k p x e. sym (x .reply) ∙ e;
+      list = λ s es ls array row r array′ row′ k p x e.
+          list-cause (captureOf s es ls array) (entriesOf 0 es ls (record { state = s; array = array })) k p (sym (x .reply) ∙ e);
       size = λ part r k p x e. size-cause (known part) (kindOf part .size) k p (sizeMeant r) (x .said) e;
       read-image = λ size text array r array′ k p x e.
           verdict-bad (imageOf intel size text array) (length text) k p .0 (sym (x .reply) ∙ e);

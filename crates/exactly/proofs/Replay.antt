@@ -12,7 +12,7 @@ use Rattle.ground.specs.Verdict.{Verdict, accepted, refused}
 use Rattle.ground.proofs.Verdicts.{apart}
 use Rattle.part.specs.declared.state.State.{State}
 use Rattle.limits.specs.Samples.{sampleBy, samplesOf}
-use Rattle.refusals.specs.Refusals.{inRange, judgedBy, judgedOf}
+use Rattle.refusals.specs.Refusals.{inRange, rowsBy, answersBy, judgedOf}
 use Rattle.exactly.specs.Words.{WithinRanges}
 use Rattle.exactly.specs.Replay.{RowsFit, GoodBefore, Replay}
 use Rattle.exactly.proofs.Decides.{Decides, holds, fails, decides-le, decides-eq}
@@ -21,7 +21,7 @@ use Rattle.exactly.proofs.Steps.{step, Above, Most, above-step, most-st
 use Rattle.exactly.proofs.Samples.{Told, good, long, high, told, nine-back, ten-back, good-back}
 
 -- The table is five tests, one after the other, and then the samples.
-steps : (a b c d e : Bool) (v : Verdict) → judgedBy a b c d e v ≡ step a 4 (step b 5 (step c 6 (step d 7 (step e 8 v))))
+steps : (a b c d e : Bool) (v : Verdict) → rowsBy a b c d (answersBy e v) ≡ step a 4 (step b 5 (step c 6 (step d 7 (step e 8 v))))
 steps false b c d e v = refl
 steps true false c d e v = refl
 steps true true false d e v = refl

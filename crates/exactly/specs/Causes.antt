@@ -13,7 +13,9 @@ use Rattle.ground.specs.Verdict.{accepted, refused, meant}
 use Rattle.ground.specs.declared.Reply.{Reply}
 use Rattle.ground.specs.declared.kinds.Size.{Size}
 use Rattle.part.specs.declared.state.State.{State}
-use Rattle.refusals.specs.Refusals.{powerOf, judgedOf}
+use Rattle.refusals.specs.Refusals.{powerOf, judgedOf, captureOf}
+use Rattle.transfers.specs.declared.Listed.{Listed}
+use Rattle.transfers.specs.Promises.{Lists}
 use Rattle.power.specs.declared.Replayed.{Replayed}
 use Rattle.power.specs.Power.{poweredUp}
 use Rattle.power.specs.Promises.{PowersUp}
@@ -33,6 +35,8 @@ pub record NoRefusalWithoutCause : Type 0 where
       → PowersUp part select stored r → meant (r .reply) ≡ refused k p → powerOf part select stored ≡ refused k p
   pub replay : (s : State) (es ls array row : List ℕ) (r : Replayed) (array′ row′ : List ℕ) (k p : ℕ)
       → Replays s es ls array row r array′ row′ → meant (r .reply) ≡ refused k p → judgedOf s es ls array row ≡ refused k p
+  pub list : (s : State) (es ls array row : List ℕ) (r : Listed) (array′ row′ : List ℕ) (k p : ℕ)
+      → Lists s es ls array row r array′ row′ → meant (r .reply) ≡ refused k p → captureOf s es ls array ≡ refused k p
   pub size : (part : ℕ) (r : Size) (k p : ℕ) → SizesPart part r → sizeMeant r ≡ refused k p
       → (known part ≡ false) × (k ≡ 1) × (p ≡ 0)
   pub read-image : (size : ℕ) (text array : List ℕ) (r : Reply) (array′ : List ℕ) (k p : ℕ)
