@@ -15,6 +15,7 @@ s19 =
       unfinished = refl;
       clean = refl;
       rises = refl;
+      idle = refl;
       falls = refl;
       remembered = refl;
     }

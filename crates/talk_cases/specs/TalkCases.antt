@@ -5,7 +5,7 @@ use mathlib.Core.Bool.{true, false}
 use mathlib.Core.List.{List, [], _∷_, _++_}
 use mathlib.Core.Path.{_≡_}
 use lib.ListN.{take, replicate}
-use Rattle.part.specs.declared.state.Phase.the-variants.{Silent}
+use Rattle.part.specs.declared.state.Phase.the-variants.{Idle, Silent}
 use Rattle.sample.specs.Run.{Part}
 use Rattle.waves.specs.Waves.{Capture, brisk, start, again, stop, clocks, sent, read, addressed, pageWrite, readFrom, currentRead}
 use Rattle.runs.specs.Bench.{holding, blank, partAt, answersAt, AcceptedAt, opening, registerByte, lastAnswers, clockedBits}
@@ -53,6 +53,7 @@ pub record S19 : Type 0 where
   pub clean : partAt (blank 4323 0) (talked (start ++ clocks 4 0xA ++ stop)) .state .wire .frame
       ≡ record { held = false; bit = false; bits = 0; shift = 0 }
   pub rises : ninth riseAndFall ≡ 3 ∷ 3 ∷ 3 ∷ 3 ∷ []
+  pub idle : partAt (blank 4323 0) (talked (10 ∷ 9 ∷ [])) .state .device .talk .phase ≡ Idle
   pub falls : ninth bothFall ≡ 3 ∷ 3 ∷ 3 ∷ 3 ∷ []
   pub remembered : ninth lowThrough ≡ 3 ∷ 3 ∷ 3 ∷ 3 ∷ []
 
