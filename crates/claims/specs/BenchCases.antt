@@ -1,5 +1,5 @@
 -- The bench cases in one list (document 01, Bench cases): those of captures, said of a part that has just been powered up; those of the
--- lock, said of every kind of part; those of images. P1 to P11 are the paper's; S1 to S22 are worked by hand from its rules.
+-- lock, said of every kind of part; those of images. P1 to P11 are the paper's; S1 to S23 are worked by hand from its rules.
 -- For a person from the line: the eleven cases of the bench, as they stand on the sheet, and others that each rule can be told by.
 use Rattle.ground.specs.declared.kinds.Kind.{Kind}
 use Rattle.run_cases.specs.RunCases.{P1, P5, P6, P7, P8, P9}
@@ -9,10 +9,10 @@ use Rattle.sheet_cases.specs.WatchCases.{S4, S5}
 use Rattle.sheet_cases.specs.LatchCases.{S6, S7, S8, S9}
 use Rattle.sheet_cases.specs.BlockCases.{S14}
 use Rattle.talk_cases.specs.ResetCases.{S15, S16, S17, S18}
-use Rattle.talk_cases.specs.TalkCases.{S19, S20, S21, S22}
+use Rattle.talk_cases.specs.TalkCases.{S19, S20, S21, S22, S23}
 use Rattle.image_cases.specs.ImageCases.{P10, P11}
 
--- The bench cases in one list, P1 to P9 for both parts where a part is asked, S1 to S22 where the RESET pin matters (Bench cases).
+-- The bench cases in one list, P1 to P9 for both parts where a part is asked, S1 to S23 where the RESET pin matters (Bench cases).
 pub record BenchCases : Type 0 where
   pub p1 : P1
   pub p2 : (k : Kind) → P2 k
@@ -47,3 +47,4 @@ pub record BenchCases : Type 0 where
   pub s20 : S20
   pub s21 : S21
   pub s22 : S22
+  pub s23 : S23

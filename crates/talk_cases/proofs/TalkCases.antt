@@ -1,7 +1,7 @@
 -- Worked cases of what starts and ends talk, each computed. No axiom is used.
 use mathlib.Core.Path.{refl}
 use Rattle.runs.proofs.Opened.{opened}
-use Rattle.talk_cases.specs.TalkCases.{S19, S20, S21, S22}
+use Rattle.talk_cases.specs.TalkCases.{S19, S20, S21, S22, S23}
 
 -- S19: bits discarded, both lines at once, levels remembered.
 pub s19 : S19
@@ -13,7 +13,9 @@ s19 =
       started = refl;
       stopped = refl;
       unfinished = refl;
+      clean = refl;
       rises = refl;
+      idle = refl;
       falls = refl;
       remembered = refl;
     }
@@ -40,3 +42,8 @@ s21 = record { taken = refl; first = refl; second = refl; latch = refl }
 pub s22 : S22
 unfolding opened
 s22 = record { once = refl; stays = record { taken = refl; line = refl }; dropped = record { taken = refl; line = refl } }
+
+-- S23: what is acknowledged.
+pub s23 : S23
+unfolding opened
+s23 = record { taken = refl; array = refl; register = refl; withheld = refl; silent = refl }

@@ -5,6 +5,7 @@ use mathlib.Core.Bool.{true, false}
 use mathlib.Core.List.{List, [], _∷_, _++_}
 use mathlib.Core.Path.{_≡_}
 use lib.ListN.{take, replicate}
+use Rattle.part.specs.declared.state.Phase.the-variants.{Idle, Silent}
 use Rattle.sample.specs.Run.{Part}
 use Rattle.waves.specs.Waves.{Capture, brisk, start, again, stop, clocks, sent, read, addressed, pageWrite, readFrom, currentRead}
 use Rattle.runs.specs.Bench.{holding, blank, partAt, answersAt, AcceptedAt, opening, registerByte, lastAnswers, clockedBits}
@@ -49,7 +50,10 @@ pub record S19 : Type 0 where
   pub started : ninth halfThenStart ≡ 2 ∷ 2 ∷ 2 ∷ 3 ∷ []
   pub stopped : ninth halfThenStop ≡ 2 ∷ 2 ∷ 2 ∷ 3 ∷ []
   pub unfinished : partAt (blank 4323 0) sevenBits .array ≡ 0x5A ∷ replicate 4095 0xFF
+  pub clean : partAt (blank 4323 0) (talked (start ++ clocks 4 0xA ++ stop)) .state .wire .frame
+      ≡ record { held = false; bit = false; bits = 0; shift = 0 }
   pub rises : ninth riseAndFall ≡ 3 ∷ 3 ∷ 3 ∷ 3 ∷ []
+  pub idle : partAt (blank 4323 0) (talked (10 ∷ 9 ∷ [])) .state .device .talk .phase ≡ Idle
   pub falls : ninth bothFall ≡ 3 ∷ 3 ∷ 3 ∷ 3 ∷ []
   pub remembered : ninth lowThrough ≡ 3 ∷ 3 ∷ 3 ∷ 3 ∷ []
 
@@ -107,3 +111,20 @@ pub record S22 : Type 0 where
   pub stays : ReadsA5 (registerTwice ++ brisk (currentRead 0 1) ∷ [])
   pub dropped : ReadsA5
       (counted ++ brisk (addressed 0 0xFFFF ++ again ++ sent 0xA1 ++ read true ++ again ++ sent 0xA1 ++ read true ++ stop) ∷ [])
+
+-- Eight clocks in which the part leaves SDA high, and a ninth in which it pulls it low.
+abbrev pub acked : List ℕ
+acked = 1 ∷ 1 ∷ 1 ∷ 1 ∷ 1 ∷ 1 ∷ 1 ∷ 1 ∷ 0 ∷ []
+
+-- Slave byte, address high, address low and a data byte or a register byte: each is acknowledged, in its ninth clock alone; then the stop's
+-- clock. With WEL low a data byte is not, and the part is silent (Bytes on the wire).
+pub record S23 : Type 0 where
+  pub taken : AcceptedAt (blank 4323 0) (opening ++ brisk (registerByte 0x02) ∷ brisk (pageWrite 0 0x123 (0x5A ∷ [])) ∷ [])
+  pub array : clockedBits
+      (lastAnswers 111
+      (answersAt (blank 4323 0) (opening ++ brisk (registerByte 0x02) ∷ brisk (pageWrite 0 0x123 (0x5A ∷ [])) ∷ [])))
+      ≡ acked ++ acked ++ acked ++ acked ++ 1 ∷ []
+  pub register : clockedBits (lastAnswers 111 (answersAt (blank 4323 0) (talked (registerByte 0x02)))) ≡ acked ++ acked ++ acked ++ acked ++ 1 ∷ []
+  pub withheld : clockedBits (lastAnswers 111 (answersAt (blank 4323 0) (talked (pageWrite 0 0x123 (0x5A ∷ [])))))
+      ≡ acked ++ acked ++ acked ++ replicate 10 1
+  pub silent : partAt (blank 4323 0) (talked (addressed 0 0x123 ++ sent 0x5A)) .state .device .talk .phase ≡ Silent
