@@ -1,4 +1,4 @@
--- What the tables of `Bytes` and `Ends` are made of (document 01, Bytes on the wire; Control register).
+-- What the tables of `Address`, and of `Bits`, `Bytes` and `Ends` above it, are made of (document 01, Bytes on the wire; Control register).
 use Prim.Native.Nat.{ℕ, _+_, _*_, _/_, _%_}
 use mathlib.Core.Bool.{Bool, true, false, _&&_}
 use lib.Dec.{eqb}

@@ -1,4 +1,4 @@
-// The slave byte and the two address bytes.
+// The slave byte and the two address bytes; and what bits, bytes and ends say with them: an acknowledge, a rest, a choice, a pending byte.
 use ground::kinds::Kind;
 use part::state::BusAddress;
 use part::state::Control;

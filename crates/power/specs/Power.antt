@@ -1,4 +1,4 @@
--- The part at power-up, and its size (document 01, State and time; Refusal numbers).
+-- The part at power-up (document 01, State and time; Refusal numbers).
 use Prim.Native.Nat.{ℕ}
 use mathlib.Core.Bool.{true, false}
 use mathlib.Core.List.{List}
