@@ -15,12 +15,12 @@ onceBy (accepted n) v = v
 onceBy (refused k p) v = refused k p
 
 -- The verdict on a capture that starts at power-up (Refusal numbers, 1 to 10).
-unfoldable pub onceOf : ℕ → ℕ → ℕ → List ℕ → List ℕ → List ℕ → List ℕ → Verdict
-onceOf part select stored es ls array row =
+unfoldable pub captureVerdict : ℕ → ℕ → ℕ → List ℕ → List ℕ → List ℕ → List ℕ → Verdict
+captureVerdict part select stored es ls array row =
     onceBy (powerOf part select stored) (judgedOf (poweredUp part select stored) es ls array row)
 
 -- Power-up and replay in one (Refusal numbers, 1 to 10).
 pub record Captures (part select stored : ℕ) (es ls array row : List ℕ) (r : Reply) (array′ row′ : List ℕ) : Type 0 where
-  pub reply : meant r ≡ onceOf part select stored es ls array row
-  pub kept : array′ ≡ partAfter (onceOf part select stored es ls array row) es ls (atPower part select stored array) .array
-  pub said : row′ ≡ rowAfter (onceOf part select stored es ls array row) es ls (atPower part select stored array) row
+  pub reply : meant r ≡ captureVerdict part select stored es ls array row
+  pub kept : array′ ≡ partAfter (captureVerdict part select stored es ls array row) es ls (atPower part select stored array) .array
+  pub said : row′ ≡ rowAfter (captureVerdict part select stored es ls array row) es ls (atPower part select stored array) row

@@ -19,7 +19,7 @@ use Rattle.demand3.specs.Differ.{fetchesNone, FullLoad, sentAfter}
 use Rattle.demand3_runs.specs.Occurs.{spot, left, right, readIt, unsetWrite, setWrite, cutRead, Occurs}
 use Rattle.chip_claims.specs.Demand3.{Compared, ReplayDemand3, PowerDemand3, ComputedForm}
 use Rattle.chip_claims.specs.States.{HandedOut, FitAgain, CutAnywhere}
-use Rattle.chip_claims.specs.AtRuns.{blank, Gives, AtRuns}
+use Rattle.chip_claims.specs.AtRuns.{rowFor, Outcome, AtRuns}
 
 -- The load at power-up is whole.
 left-load : FullLoad (left .state)
@@ -34,12 +34,12 @@ left-reachable handed o =
     (record { reply = refl; state = refl }) refl (o .size) .1
 
 -- Two replays of a capture that is taken.
-compares : ReplayDemand3 → Occurs → (c : Capture) → Taken c left → (r q : Replayed) (xs ys said said₂ : List _) → Gives c left r xs said
-    → Gives c right q ys said₂
+compares : ReplayDemand3 → Occurs → (c : Capture) → Taken c left → (r q : Replayed) (xs ys said said₂ : List _) → Outcome c left r xs said
+    → Outcome c right q ys said₂
     → Compared spot (left .state) (left .array) (right .array) (c .times) (c .levels) r q xs ys said said₂
 compares d o c t r q xs ys said said₂ x y =
-    let v = d .verdict spot (left .state) (left .array) (right .array) (c .times) (c .levels) (blank c) (o .arrays) in
-    d .compared spot (left .state) (left .array) (right .array) (c .times) (c .levels) (blank c) (blank c) _ _ r q xs ys said said₂
+    let v = d .verdict spot (left .state) (left .array) (right .array) (c .times) (c .levels) (rowFor c) (o .arrays) in
+    d .compared spot (left .state) (left .array) (right .array) (c .times) (c .levels) (rowFor c) (rowFor c) _ _ r q xs ys said said₂
     left-load (o .arrays) (record { judged = t; replays = x }) (record { judged = v ∙ t; replays = y })
 
 -- The first 100 samples of the read fetch nothing from the address.
@@ -61,13 +61,13 @@ runs-from o replay3 power3 form handed fit cut =
           compares replay3 o setWrite (o .write .taken) r q xs ys said said₂ x y .covered 230 (o .write .covered);
       powered = power3 .alike spot left (right .array) (readIt .times) (readIt .levels) (left-reachable handed o) (o .arrays);
       pieces = λ r r₁ r₂ xs xs₁ xs₂ said said₁ said₂ x y z.
-          cut .joined (left .state) (readIt .times) (readIt .levels) (left .array) (blank readIt) _ _ 121 27 r r₁ r₂ xs xs₁ xs₂ said said₁
+          cut .joined (left .state) (readIt .times) (readIt .levels) (left .array) (rowFor readIt) _ _ 121 27 r r₁ r₂ xs xs₁ xs₂ said said₁
           said₂ (record { judged = o .read .taken; replays = x }) refl refl y z;
       again = λ r xs said x.
-          fit .fit (left .state) (readIt .times) (readIt .levels) (left .array) (blank readIt) _ r xs said
+          fit .fit (left .state) (readIt .times) (readIt .levels) (left .array) (rowFor readIt) _ r xs said
           (record { judged = o .read .taken; replays = x });
       low = λ r xs said x.
-          handed .replay left (cutRead .times) (cutRead .levels) (blank cutRead) r xs said (left-reachable handed o) x .0 .own;
+          handed .replay left (cutRead .times) (cutRead .levels) (rowFor cutRead) r xs said (left-reachable handed o) x .0 .own;
       until =
           power3 .alike spot left (right .array) (readIt .times) (readIt .levels) (left-reachable handed o) (o .arrays) .until 100 not-fetched;
       out =

@@ -10,7 +10,7 @@ use Rattle.power.specs.declared.Replayed.{Replayed}
 use Rattle.sample.specs.Run.{Part, partStep}
 use Rattle.twin.specs.Promises.{Replays}
 use Rattle.waves.specs.Waves.{Capture}
-use Rattle.runs.specs.Runs.{partAfter}
+use Rattle.runs.specs.Runs.{afterCapture}
 use Rattle.ranges.specs.Fit.{Fit}
 use Rattle.reachable.specs.Reachable.{Lowers}
 use Rattle.demand2.specs.Demand2.{Joined}
@@ -20,29 +20,29 @@ use Rattle.demand3_runs.specs.Occurs.{spot, left, right, readIt, unsetWrite, se
 use Rattle.chip_claims.specs.Demand3.{over}
 
 -- An answer row for a capture, before the replay (What goes in and what comes out).
-abbrev pub blank : Capture → List ℕ
-blank c = replicate (length (c .levels)) 0
+abbrev pub rowFor : Capture → List ℕ
+rowFor c = replicate (length (c .levels)) 0
 
 -- An outcome of the replay of a capture (What goes in and what comes out).
-abbrev pub Gives : Capture → Part → Replayed → List ℕ → List ℕ → Type 0
-Gives c p r array′ row′ = Replays (p .state) (c .times) (c .levels) (p .array) (blank c) r array′ row′
+abbrev pub Outcome : Capture → Part → Replayed → List ℕ → List ℕ → Type 0
+Outcome c p r array′ row′ = Replays (p .state) (c .times) (c .levels) (p .array) (rowFor c) r array′ row′
 
 -- Replays of the read differ first at sample 126, in SDA alone; replays of the write come to the same; the read in two pieces is the read; from
 -- power-up the two parts are alike; and while the read is cut off after its third bit the part holds SDA low, for it sends a 0 (demand 3).
 pub record AtRuns : Type 0 where
-  pub read : (r q : Replayed) (xs ys said said₂ : List ℕ) → Gives readIt left r xs said → Gives readIt right q ys said₂
+  pub read : (r q : Replayed) (xs ys said said₂ : List ℕ) → Outcome readIt left r xs said → Outcome readIt right q ys said₂
       → SplitAt 126 said said₂
-  pub write : (r q : Replayed) (xs ys said said₂ : List ℕ) → Gives setWrite left r xs said → Gives setWrite right q ys said₂
+  pub write : (r q : Replayed) (xs ys said said₂ : List ℕ) → Outcome setWrite left r xs said → Outcome setWrite right q ys said₂
       → (said ≡ said₂) × (r .state ≡ q .state) × (xs ≡ ys)
   pub powered : TwoParts spot (readIt .times) (readIt .levels) left right
-  pub pieces : (r r₁ r₂ : Replayed) (xs xs₁ xs₂ said said₁ said₂ : List ℕ) → Gives readIt left r xs said
+  pub pieces : (r r₁ r₂ : Replayed) (xs xs₁ xs₂ said said₁ said₂ : List ℕ) → Outcome readIt left r xs said
       → Replays (left .state) (take 121 (readIt .times)) (take 121 (readIt .levels)) (left .array) (replicate 121 0) r₁ xs₁ said₁
       → Replays (r₁ .state) (drop 121 (readIt .times)) (drop 121 (readIt .levels)) xs₁ (replicate 27 0) r₂ xs₂ said₂
       → Joined 121 27 r r₁ r₂ xs xs₂ said said₁ said₂
-  pub again : (r : Replayed) (xs said : List ℕ) → Gives readIt left r xs said → Fit (over (r .state) xs)
-  pub low : (r : Replayed) (xs said : List ℕ) → Gives cutRead left r xs said → r .state .device .talk .own ≡ false → Lowers (r .state)
+  pub again : (r : Replayed) (xs said : List ℕ) → Outcome readIt left r xs said → Fit (over (r .state) xs)
+  pub low : (r : Replayed) (xs said : List ℕ) → Outcome cutRead left r xs said → r .state .device .talk .own ≡ false → Lowers (r .state)
   pub form : holdsOf partStep left right readIt ≡ true
   -- before the fetch the two are in one state; of the byte fetched the third bit is out; a byte that was withheld leaves the array's
   pub until : Unfetched spot (take 100 (readIt .times)) (take 100 (readIt .levels)) left right
-  pub out : partAfter cutRead left .state .device .talk .own ≡ bitFrom 2 0x4C
-  pub stays : getD (partAfter unsetWrite left .array) spot 0 ≡ 0x4C
+  pub out : afterCapture cutRead left .state .device .talk .own ≡ bitFrom 2 0x4C
+  pub stays : getD (afterCapture unsetWrite left .array) spot 0 ≡ 0x4C

@@ -5,12 +5,12 @@ use mathlib.Core.Path.{sym, _∙_}
 use lib.ListN.{length}
 use borrow.Author.Tests.{eq-eqb}
 use Rattle.tidying.specs.Shown.{shownOf}
-use Rattle.captures.specs.Once.{onceOf}
+use Rattle.captures.specs.Once.{captureVerdict}
 use Rattle.claims.specs.Demand1.{Demand1}
 
 -- The claim: what each operation leaves where it refuses.
 pub demand-1 : Demand1
-unfolding shownOf onceOf
+unfolding shownOf captureVerdict
 demand-1 =
     record {
       power-up = λ part select stored r k p x v. (x .reply ∙ v, x .state ∙ rw v);

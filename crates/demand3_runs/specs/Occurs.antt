@@ -12,7 +12,7 @@ use Rattle.power.specs.Power.{atPower}
 use Rattle.demand3.specs.Sending.{nothing}
 use Rattle.demand3.specs.Differ.{When, never, sample, EqualBut, firstReach, firstDiff, firstCover, elsewhere, sentAfter, coversNone}
 use Rattle.waves.specs.Waves.{Capture, joined, upTo, after, brisk, wait, awake, pageWrite, registerWrite, readFrom}
-use Rattle.runs.specs.Runs.{partAfter, answersTo, Taken}
+use Rattle.runs.specs.Runs.{afterCapture, answersTo, Taken}
 use Rattle.demand3_runs.specs.Under.{Step, holdsFor}
 
 -- The address at which the arrays differ.
@@ -20,24 +20,24 @@ abbrev pub spot : ℕ
 spot = 0x0345
 
 -- A part at power-up with a stored control byte, its array all FFh but for the address (State and time, power-up).
-abbrev pub holding : ℕ → ℕ → Part
-holding stored v = atPower x4323 0 stored (set (replicate smallSize 0xFF) spot v)
+abbrev pub holdingAt : ℕ → ℕ → Part
+holdingAt stored v = atPower x4323 0 stored (set (replicate smallSize 0xFF) spot v)
 
 -- One part holds 0100 1100 at the address, nothing is locked.
 abbrev pub left : Part
-left = holding 0x00 0x4C
+left = holdingAt 0x00 0x4C
 
 -- The other holds 0101 1100: the fourth bit is unequal.
 abbrev pub right : Part
-right = holding 0x00 0x5C
+right = holdingAt 0x00 0x5C
 
 -- The one with everything locked, BP code 3 (Control register).
 abbrev pub lockedLeft : Part
-lockedLeft = holding 0x18 0x4C
+lockedLeft = holdingAt 0x18 0x4C
 
 -- The other with everything locked.
 abbrev pub lockedRight : Part
-lockedRight = holding 0x18 0x5C
+lockedRight = holdingAt 0x18 0x5C
 
 -- The address is read (Bytes on the wire, read).
 abbrev pub readIt : Capture
@@ -65,7 +65,7 @@ partWay = 121
 
 -- The state there over the array of a part: the byte being sent was fetched before (State and time, a byte being sent).
 abbrev pub midway : Part → Part
-midway p = record { state = partAfter (upTo partWay readIt) left .state; array = p .array }
+midway p = record { state = afterCapture (upTo partWay readIt) left .state; array = p .array }
 
 -- Another address is read, then the address is covered, with WEL set (Bytes on the wire, array data, stop, read).
 abbrev pub readThenWrite : Capture
@@ -77,7 +77,7 @@ cutRead = upTo 124 readIt
 
 -- The byte being sent after a capture, as far as it is not sent yet (State and time, a byte being sent).
 abbrev pub stillHeld : Part → Capture → ℕ
-stillHeld p c = partAfter c p .state .device .talk .out
+stillHeld p c = afterCapture c p .state .device .talk .out
 
 -- Demand 3 of a step, two parts and a capture, as far as it is computed: see holdsFor (demand 3).
 abbrev pub holdsOf : Step → Part → Part → Capture → Bool
@@ -92,7 +92,7 @@ abbrev pub uncoveredBy : Capture → Bool
 uncoveredBy c = coversNone spot (c .times) (c .levels) left
 
 -- Under the sheet's rules: where a bit is reached and the answers differ, where the address is covered; demand 3 holds.
-pub record Comes (p q : Part) (c : Capture) (reach cover : When) : Type 0 where
+pub record RunsTo (p q : Part) (c : Capture) (reach cover : When) : Type 0 where
   pub taken : Taken c p
   pub reached : firstReach spot 0 (c .times) (c .levels) p q nothing nothing ≡ reach
   pub differ : firstDiff 0 (answersTo c p) (answersTo c q) ≡ reach
@@ -104,16 +104,16 @@ pub record Occurs : Type 0 where
   -- the arrays are as demand 3 asks
   pub arrays : EqualBut spot (left .array) (right .array)
   pub size : length (left .array) ≡ smallSize
-  pub read : Comes left right readIt (sample 126) never
-  pub other : Comes left right readOther never never
-  pub write : Comes left right setWrite never (sample 230)
-  pub unset : Comes left right unsetWrite (sample 241) never
-  pub locked : Comes lockedLeft lockedRight setWrite (sample 355) never
-  pub before : Comes (midway left) (midway right) (after partWay readIt) never never
-  pub passed : Comes left right readThenWrite never (sample 375)
+  pub read : RunsTo left right readIt (sample 126) never
+  pub other : RunsTo left right readOther never never
+  pub write : RunsTo left right setWrite never (sample 230)
+  pub unset : RunsTo left right unsetWrite (sample 241) never
+  pub locked : RunsTo lockedLeft lockedRight setWrite (sample 355) never
+  pub before : RunsTo (midway left) (midway right) (after partWay readIt) never never
+  pub passed : RunsTo left right readThenWrite never (sample 375)
   -- what is being sent, and whether a write covers
   pub from : (elsewhereAfter cutRead ≡ false) × (elsewhereAfter (upTo 124 readOther) ≡ true)
   pub covering : (uncoveredBy unsetWrite ≡ true) × (uncoveredBy setWrite ≡ false)
   -- cut off before the unequal bit, the states differ in the byte being sent, and in nothing else by demand 3
-  pub cut : Comes left right cutRead never never
+  pub cut : RunsTo left right cutRead never never
   pub held : (stillHeld left cutRead ≡ 0x30) × (stillHeld right cutRead ≡ 0x70)

@@ -8,15 +8,15 @@ use Rattle.ground.specs.Kind.{kindOf}
 use Rattle.power.specs.Power.{atPower}
 use Rattle.sample.specs.Run.{partAfter}
 use Rattle.twin.specs.Promises.{rowAfter}
-use Rattle.telling.specs.Told.{told, fits, answerBy, leftBy}
-use Rattle.captures.specs.Once.{onceOf}
+use Rattle.telling.specs.Told.{told, fits, answerBy, leftOr}
+use Rattle.captures.specs.Once.{captureVerdict}
 
 -- Power-up and replay in one: array and answer row as the samples leave them; refused, as they were (Refusal numbers, 1 to 10).
 pub record ReplaysOnce (part select stored : ℕ) (es ls array row numbers : List ℕ) (r : ℕ) (array′ row′ numbers′ : List ℕ) : Type 0 where
   pub answer : r ≡ answerBy (fits numbers)
-  pub reply : numbers′ ≡ leftBy (fits numbers) (told (onceOf part select stored es ls array row)) numbers
-  pub kept : array′ ≡ leftBy (fits numbers) (partAfter (onceOf part select stored es ls array row) es ls (atPower part select stored array) .array) array
-  pub said : row′ ≡ leftBy (fits numbers) (rowAfter (onceOf part select stored es ls array row) es ls (atPower part select stored array) row) row
+  pub reply : numbers′ ≡ leftOr (fits numbers) (told (captureVerdict part select stored es ls array row)) numbers
+  pub kept : array′ ≡ leftOr (fits numbers) (partAfter (captureVerdict part select stored es ls array row) es ls (atPower part select stored array) .array) array
+  pub said : row′ ≡ leftOr (fits numbers) (rowAfter (captureVerdict part select stored es ls array row) es ls (atPower part select stored array) row) row
 
 -- The size of the array whose images go through the door: the X4323's (The part on our bench).
 abbrev pub imageSize : ℕ

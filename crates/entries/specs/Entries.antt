@@ -70,15 +70,15 @@ tagOf ResetBegins = 13
 tagOf ResetEnds = 14
 
 -- What an entry holds beside that: the bits cut off, the byte, the ninth bit on the line and the part's own level (1 and 2).
-abbrev pub valueOf : Entry → ℕ
-valueOf (Start n) = n
-valueOf (Stop n) = n
-valueOf (Byte p v) = v
-valueOf (Ninth b own) = orZero b 1 + orZero own 2
-valueOf CycleBegins = 0
-valueOf CycleEnds = 0
-valueOf ResetBegins = 0
-valueOf ResetEnds = 0
+abbrev pub entryValue : Entry → ℕ
+entryValue (Start n) = n
+entryValue (Stop n) = n
+entryValue (Byte p v) = v
+entryValue (Ninth b own) = orZero b 1 + orZero own 2
+entryValue CycleBegins = 0
+entryValue CycleEnds = 0
+entryValue ResetBegins = 0
+entryValue ResetEnds = 0
 
 -- Place, tag and value as one number; an accepted capture's places are far below the bound (Refusal numbers, 7).
 abbrev pub packedOf : ℕ → ℕ → ℕ → ℕ
@@ -86,7 +86,7 @@ packedOf place tag value = place % 1048576 * 4096 + tag * 256 + value
 
 -- An entry and its place as one number.
 unfoldable pub numberOf : Placed → ℕ
-numberOf x = packedOf (x .place) (tagOf (x .entry)) (valueOf (x .entry))
+numberOf x = packedOf (x .place) (tagOf (x .entry)) (entryValue (x .entry))
 
 -- A list's numbers laid over a row from a place on, as far as it has room.
 abbrev pub laidFrom : ℕ → List Placed → List ℕ → List ℕ

@@ -24,8 +24,8 @@ use Rattle.reader.specs.Answers.{verdictOf}
 use Rattle.texts.specs.Laying.{Starts}
 use Rattle.texts.specs.Refusal.{refusalLine}
 use Rattle.tidying.specs.Shown.{shownBy, shownOf}
-use Rattle.telling.specs.Told.{told, fits, answerBy, leftBy}
-use Rattle.captures.specs.Once.{onceBy, onceOf}
+use Rattle.telling.specs.Told.{told, fits, answerBy, leftOr}
+use Rattle.captures.specs.Once.{onceBy, captureVerdict}
 use Rattle.exactly.specs.Causes.{NoRefusalWithoutCause}
 use Rattle.exactly.proofs.ReadImage.{verdict-bad}
 use Rattle.exactly.proofs.RefusalLine.{one-line, no-line}
@@ -41,7 +41,7 @@ told-cause (accepted n) k p h e = absurd (h (cc))
 told-cause (refused j q) k p h e = cc
 
 row-cause : (b : Bool) (v : Verdict) (numbers numbers′ : List ℕ) (r k p : ℕ) → r ≡ answerBy b → r ≡ 1 → ¬ (k ≡ 0)
-    → numbers′ ≡ leftBy b (told v) numbers → numbers′ ≡ k ∷ p ∷ [] → v ≡ refused k p
+    → numbers′ ≡ leftOr b (told v) numbers → numbers′ ≡ k ∷ p ∷ [] → v ≡ refused k p
 row-cause true v numbers numbers′ r k p a o h e f = told-cause v k p h (sym e ∙ f)
 row-cause false v numbers numbers′ r k p a o h e f = absurd (omega arith)
 
@@ -50,12 +50,12 @@ once-cause (accepted n) v k p e = inr (n, refl, e)
 once-cause (refused j q) v k p e = inl e
 
 door-cause : (part select stored : ℕ) (es ls array row : List ℕ) (k p : ℕ)
-    → onceOf part select stored es ls array row ≡ refused k p
+    → captureVerdict part select stored es ls array row ≡ refused k p
     → (powerOf part select stored ≡ refused k p)
     ⊎ ((n : ℕ)
     × (powerOf part select stored ≡ accepted n)
     × (judgedOf (poweredUp part select stored) es ls array row ≡ refused k p))
-unfolding onceOf
+unfolding captureVerdict
 door-cause part select stored es ls array row k p e =
     once-cause (powerOf part select stored) (judgedOf (poweredUp part select stored) es ls array row) k p e
 
@@ -93,7 +93,7 @@ no-refusal-without-cause =
       tidy = tidy-cause;
       door-replay = λ part select stored es ls array row numbers r array′ row′ numbers′ k p x o h e.
           door-cause part select stored es ls array row k p
-          (row-cause (fits numbers) (onceOf part select stored es ls array row) numbers numbers′ r k p (x .answer) o h (x .reply) e);
+          (row-cause (fits numbers) (captureVerdict part select stored es ls array row) numbers numbers′ r k p (x .answer) o h (x .reply) e);
       door-read-image = λ size text array numbers r array′ numbers′ k p x o h e.
           verdict-bad (imageOf intel size text array) (length text) k p .0
           (row-cause (fits numbers) (verdictOf (imageOf intel size text array) (length text)) numbers numbers′ r k p (x .answer) o h (x .reply) e);

@@ -13,7 +13,7 @@ use Rattle.ground.proofs.Tests.{and-split}
 use Rattle.cells.specs.Cells.{notGiven, freshOf, giveOf}
 use Rattle.cells.proofs.CellLaws.{length-giveOf}
 use Rattle.forms.specs.Reading.{givenOf}
-use Rattle.intel.specs.Intel.{bytesOf, addressOf, dataOf, intel}
+use Rattle.intel.specs.Intel.{bytesIn, recordAddress, dataOf, intel}
 use Rattle.exactly.specs.Lines.{LineAt, charactersOf}
 use Rattle.exactly.specs.Records.{count, address, WellFormed, Gives, Beyond}
 use Rattle.exactly.specs.Faults.{GivenBefore, Twice}
@@ -57,7 +57,7 @@ fresh-not (c ∷ cs) (b ∷ bs) e = go (eqb c 256) refl (fresh-not cs bs) e
 
 -- 16: an address given twice.
 pub decides-fresh : (size : ℕ) (text : List ℕ) (p : ℕ) (cells l : List ℕ) → WellFormed l → Filled size text p cells → ¬ Beyond size l
-    → Decides (freshOf (drop (addressOf (bytesOf l)) cells) (dataOf (bytesOf l))) (¬ Twice text p l) (Twice text p l)
+    → Decides (freshOf (drop (recordAddress (bytesIn l)) cells) (dataOf (bytesIn l))) (¬ Twice text p l) (Twice text p l)
 decides-fresh size text p cells l w f n =
     rw (same-address l w) (record { yes = yes; no = no; apart = λ n t. n t })
   where
@@ -68,7 +68,7 @@ decides-fresh size text p cells l w f n =
         go true e = ltb-true a size e
         go false e = absurd (n (a, g, ltb-false a size e))
 
-    yes : freshOf (drop (address l) cells) (dataOf (bytesOf l)) ≡ true → ¬ Twice text p l
+    yes : freshOf (drop (address l) cells) (dataOf (bytesIn l)) ≡ true → ¬ Twice text p l
     yes e t =
         let a = t .0 in
         let low = t .1 .0 in
@@ -78,12 +78,12 @@ decides-fresh size text p cells l w f n =
         let k = f .long in
         let d = data-count l w in
         let q : address l + (a - address l) ≡ a = omega arith in
-        let x = fresh-all (drop (address l) cells) (dataOf (bytesOf l)) e (a - address l) (omega arith) (omega arith) in
+        let x = fresh-all (drop (address l) cells) (dataOf (bytesIn l)) e (a - address l) (omega arith) (omega arith) in
         f .free a h (rw (getD-drop (address l) cells (a - address l) 0, q) at x) (t .2)
 
-    no : freshOf (drop (address l) cells) (dataOf (bytesOf l)) ≡ false → Twice text p l
+    no : freshOf (drop (address l) cells) (dataOf (bytesIn l)) ≡ false → Twice text p l
     no e =
-        let t = fresh-not (drop (address l) cells) (dataOf (bytesOf l)) e in
+        let t = fresh-not (drop (address l) cells) (dataOf (bytesIn l)) e in
         let i = t .0 in
         let x = t .1 in
         let y = t .2 in
@@ -177,8 +177,8 @@ module _ (size : ℕ) (text : List ℕ) (p e : ℕ) (cells : List ℕ) (x : Line
       let n = data-count l w in
       let y = g .0 in
       let v = g .1 in
-      let q = place-in cells (dataOf (bytesOf l)) (addressOf (bytesOf l)) a (omega arith) (omega arith) (omega arith) in
-      let s = data-small l w (a - addressOf (bytesOf l)) (omega arith) in
+      let q = place-in cells (dataOf (bytesIn l)) (recordAddress (bytesIn l)) a (omega arith) (omega arith) (omega arith) in
+      let s = data-small l w (a - recordAddress (bytesIn l)) (omega arith) in
       omega arith
 
   given-out : (a : ℕ) → a < size → ¬ Gives l a → getD (givenOf intel cells l) a 0 ≡ getD cells a 0
@@ -187,7 +187,7 @@ module _ (size : ℕ) (text : List ℕ) (p e : ℕ) (cells : List ℕ) (x : Line
       let k = f .long in
       let m = same-address l w in
       let n = data-count l w in
-      place-out cells (dataOf (bytesOf l)) (addressOf (bytesOf l)) a (omega arith) (λ g. let y = g .0 in let v = g .1 in o (omega arith, omega arith))
+      place-out cells (dataOf (bytesIn l)) (recordAddress (bytesIn l)) a (omega arith) (λ g. let y = g .0 in let v = g .1 in o (omega arith, omega arith))
 
   given-length : length (givenOf intel cells l) ≡ size
   unfolding givenOf

@@ -10,7 +10,7 @@ use lib.ListN.{length, drop}
 use Rattle.cells.specs.Cells.{freshOf}
 use Rattle.hexfile.specs.Pairs.{sumsToZero}
 use Rattle.forms.specs.Reading.{Heard, gives, ends, faulty, saysBy, fitsIn, saysOf}
-use Rattle.intel.specs.Intel.{bytesOf, addressOf, typeOf, dataOf, wellFormed, typed, intel}
+use Rattle.intel.specs.Intel.{bytesIn, recordAddress, typeOf, dataOf, wellFormed, typed, intel}
 use Rattle.exactly.specs.Records.{type, WellFormed, SumsRight, EndType, TypeTaken, Gives, Beyond}
 use Rattle.exactly.specs.Faults.{Twice, GivesData}
 use Rattle.exactly.proofs.Decides.{holds, fails}
@@ -83,13 +83,13 @@ module _ (size : ℕ) (text : List ℕ) (p : ℕ) (cells l : List ℕ) (first : 
   says = saysOf intel first cells l
 
   abbrev last : Heard
-  last = lastly (eqb (typeOf (bytesOf l)) 1)
+  last = lastly (eqb (typeOf (bytesIn l)) 1)
 
   abbrev fresh : Bool
-  fresh = freshOf (drop (addressOf (bytesOf l)) cells) (dataOf (bytesOf l))
+  fresh = freshOf (drop (recordAddress (bytesIn l)) cells) (dataOf (bytesIn l))
 
   abbrev fits : Bool
-  fits = fitsIn size (addressOf (bytesOf l)) (length (dataOf (bytesOf l)))
+  fits = fitsIn size (recordAddress (bytesIn l)) (length (dataOf (bytesIn l)))
 
   abbrev fifth : Heard
   fifth = test fresh 16 last
@@ -98,28 +98,28 @@ module _ (size : ℕ) (text : List ℕ) (p : ℕ) (cells l : List ℕ) (first : 
   fourth = test fits 15 fifth
 
   abbrev third : Heard
-  third = test (typed (bytesOf l)) 14 fourth
+  third = test (typed (bytesIn l)) 14 fourth
 
   abbrev second : Heard
-  second = test (sumsToZero (bytesOf l)) 13 third
+  second = test (sumsToZero (bytesIn l)) 13 third
 
   by-steps : says ≡ test (wellFormed l) 12 second
   unfolding saysOf
   by-steps =
       rw (f .long)
-      (steps (wellFormed l) (sumsToZero (bytesOf l)) (typed (bytesOf l)) fits fresh (eqb (typeOf (bytesOf l)) 1))
+      (steps (wellFormed l) (sumsToZero (bytesIn l)) (typed (bytesIn l)) fits fresh (eqb (typeOf (bytesIn l)) 1))
 
   over-fifteen : Over 15 fifth
-  over-fifteen = over-test fresh 15 16 last (omega arith) (omega arith) (over-last (eqb (typeOf (bytesOf l)) 1))
+  over-fifteen = over-test fresh 15 16 last (omega arith) (omega arith) (over-last (eqb (typeOf (bytesIn l)) 1))
 
   over-fourteen : Over 14 fourth
   over-fourteen = over-test fits 14 15 fifth (omega arith) (omega arith) over-fifteen
 
   over-thirteen : Over 13 third
-  over-thirteen = over-test (typed (bytesOf l)) 13 14 fourth (omega arith) (omega arith) over-fourteen
+  over-thirteen = over-test (typed (bytesIn l)) 13 14 fourth (omega arith) (omega arith) over-fourteen
 
   over-twelve : Over 12 second
-  over-twelve = over-test (sumsToZero (bytesOf l)) 12 13 third (omega arith) (omega arith) over-thirteen
+  over-twelve = over-test (sumsToZero (bytesIn l)) 12 13 third (omega arith) (omega arith) over-thirteen
 
   pub numbers : (k : ℕ) → says ≡ faulty k → (12 ≤ k) × (k ≤ 16)
   numbers k e = over-test (wellFormed l) 11 12 second (omega arith) (omega arith) over-twelve k (sym by-steps ∙ e)
@@ -131,13 +131,13 @@ module _ (size : ℕ) (text : List ℕ) (p : ℕ) (cells l : List ℕ) (first : 
   past-sum : (k : ℕ) → 13 < k → says ≡ faulty k → WellFormed l × SumsRight l × (third ≡ faulty k)
   past-sum k h e =
       let t = past-formed k (omega arith) e in
-      let u = miss (sumsToZero (bytesOf l)) 13 k third h (t .1) in
+      let u = miss (sumsToZero (bytesIn l)) 13 k third h (t .1) in
       (t .0, decides-sum l (t .0) .yes (u .0), u .1)
 
   past-type : (k : ℕ) → 14 < k → says ≡ faulty k → WellFormed l × SumsRight l × TypeTaken l × (fourth ≡ faulty k)
   past-type k h e =
       let t = past-sum k (omega arith) e in
-      let u = miss (typed (bytesOf l)) 14 k fourth h (t .2) in
+      let u = miss (typed (bytesIn l)) 14 k fourth h (t .2) in
       (t .0, t .1, decides-type l (t .0) .yes (u .0), u .1)
 
   past-fits : (k : ℕ) → 15 < k → says ≡ faulty k → WellFormed l × SumsRight l × TypeTaken l × (¬ Beyond size l) × (fifth ≡ faulty k)
@@ -151,10 +151,10 @@ module _ (size : ℕ) (text : List ℕ) (p : ℕ) (cells l : List ℕ) (first : 
   to-second w = by-steps ∙ on (wellFormed l) 12 second (holds (decides-formed l) w)
 
   to-third : WellFormed l → SumsRight l → says ≡ third
-  to-third w s = to-second w ∙ on (sumsToZero (bytesOf l)) 13 third (holds (decides-sum l w) s)
+  to-third w s = to-second w ∙ on (sumsToZero (bytesIn l)) 13 third (holds (decides-sum l w) s)
 
   to-fourth : WellFormed l → SumsRight l → TypeTaken l → says ≡ fourth
-  to-fourth w s t = to-third w s ∙ on (typed (bytesOf l)) 14 fourth (holds (decides-type l w) t)
+  to-fourth w s t = to-third w s ∙ on (typed (bytesIn l)) 14 fourth (holds (decides-type l w) t)
 
   to-fifth : WellFormed l → SumsRight l → TypeTaken l → ¬ Beyond size l → says ≡ fifth
   to-fifth w s t n = to-fourth w s t ∙ on fits 15 fifth (holds (decides-within l w size) n)
@@ -172,16 +172,16 @@ module _ (size : ℕ) (text : List ℕ) (p : ℕ) (cells l : List ℕ) (first : 
   hear-thirteen = (
     λ e.
         let t = past-formed 13 (omega arith) e in
-        (t .0, decides-sum l (t .0) .no (hit (sumsToZero (bytesOf l)) 13 third over-thirteen (t .1))),
-    λ h. to-second (h .0) ∙ off (sumsToZero (bytesOf l)) 13 third (fails (decides-sum l (h .0)) (h .1)),
+        (t .0, decides-sum l (t .0) .no (hit (sumsToZero (bytesIn l)) 13 third over-thirteen (t .1))),
+    λ h. to-second (h .0) ∙ off (sumsToZero (bytesIn l)) 13 third (fails (decides-sum l (h .0)) (h .1)),
   )
 
   pub hear-fourteen : (says ≡ faulty 14) ↔ (WellFormed l × SumsRight l × ¬ TypeTaken l)
   hear-fourteen = (
     λ e.
         let t = past-sum 14 (omega arith) e in
-        (t .0, t .1, decides-type l (t .0) .no (hit (typed (bytesOf l)) 14 fourth over-fourteen (t .2))),
-    λ h. to-third (h .0) (h .1) ∙ off (typed (bytesOf l)) 14 fourth (fails (decides-type l (h .0)) (h .2)),
+        (t .0, t .1, decides-type l (t .0) .no (hit (typed (bytesIn l)) 14 fourth over-fourteen (t .2))),
+    λ h. to-third (h .0) (h .1) ∙ off (typed (bytesIn l)) 14 fourth (fails (decides-type l (h .0)) (h .2)),
   )
 
   pub hear-fifteen : (says ≡ faulty 15) ↔ (WellFormed l × SumsRight l × TypeTaken l × Beyond size l)
@@ -196,7 +196,7 @@ module _ (size : ℕ) (text : List ℕ) (p : ℕ) (cells l : List ℕ) (first : 
   hear-sixteen = (
     λ e.
         let t = past-fits 16 (omega arith) e in
-        let o = hit fresh 16 last (over-last (eqb (typeOf (bytesOf l)) 1)) (t .4) in
+        let o = hit fresh 16 last (over-last (eqb (typeOf (bytesIn l)) 1)) (t .4) in
         (t .0, t .1, t .2, t .3, decides-fresh size text p cells l (t .0) f (t .3) .no o),
     λ h.
         to-fifth (h .0) (h .1) (h .2) (h .3)
@@ -215,12 +215,12 @@ module _ (size : ℕ) (text : List ℕ) (p : ℕ) (cells l : List ℕ) (first : 
       forth e =
           let a = sound-data (wellFormed l) 12 second (sym by-steps ∙ e) in
           let w = decides-formed l .yes (a .0) in
-          let b = sound-data (sumsToZero (bytesOf l)) 13 third (a .1) in
-          let c = sound-data (typed (bytesOf l)) 14 fourth (b .1) in
+          let b = sound-data (sumsToZero (bytesIn l)) 13 third (a .1) in
+          let c = sound-data (typed (bytesIn l)) 14 fourth (b .1) in
           let d = sound-data fits 15 fifth (c .1) in
           let n = decides-within l w size .yes (d .0) in
           let g = sound-data fresh 16 last (d .1) in
-          let z = last-data (eqb (typeOf (bytesOf l)) 1) (g .1) in
+          let z = last-data (eqb (typeOf (bytesIn l)) 1) (g .1) in
           record {
             formed = w;
             summed = decides-sum l w .yes (b .0);
@@ -247,11 +247,11 @@ module _ (size : ℕ) (text : List ℕ) (p : ℕ) (cells l : List ℕ) (first : 
       forth e =
           let a = sound-end (wellFormed l) 12 second (sym by-steps ∙ e) in
           let w = decides-formed l .yes (a .0) in
-          let b = sound-end (sumsToZero (bytesOf l)) 13 third (a .1) in
-          let c = sound-end (typed (bytesOf l)) 14 fourth (b .1) in
+          let b = sound-end (sumsToZero (bytesIn l)) 13 third (a .1) in
+          let c = sound-end (typed (bytesIn l)) 14 fourth (b .1) in
           let d = sound-end fits 15 fifth (c .1) in
           let g = sound-end fresh 16 last (d .1) in
-          let z = last-end (eqb (typeOf (bytesOf l)) 1) (g .1) in
+          let z = last-end (eqb (typeOf (bytesIn l)) 1) (g .1) in
           (w, decides-sum l w .yes (b .0), end-type w (decides-type l w .yes (c .0)) (decides-last l w .yes z))
 
       back : WellFormed l × SumsRight l × EndType l → says ≡ ends

@@ -11,7 +11,7 @@ use lib.Seq.{drop-drop, getD-drop}
 use borrow.Author.Tests.{eqb-true, eqb-false, ltb-true, ltb-false}
 use Rattle.lines.specs.Lines.{joinBy, linesOf, firstLine, trimBy, trimmed}
 use Rattle.lines.proofs.LineLaws.{first-take, first-length, lines-cons}
-use Rattle.exactly.specs.Lines.{Starts, Ends, LineAt, charactersOf}
+use Rattle.exactly.specs.Lines.{StartsLine, Ends, LineAt, charactersOf}
 
 -- One of two numbers is less, or they are equal.
 pub three-ways : (a b : ℕ) → (a < b) ⊎ ((a ≡ b) ⊎ (b < a))
@@ -46,7 +46,7 @@ one-end text p e f x y = go (three-ways e f)
 pub none-within : (text : List ℕ) (p e q f : ℕ) → LineAt text p e → LineAt text q f → p < q → q ≤ e → ⊥
 none-within text p e q f x y h k = go (y .starts)
   where
-    go : Starts text q → ⊥
+    go : StartsLine text q → ⊥
     go (inl z) = omega arith
     go (inr z) = x .plain (q - 1) (omega arith) (omega arith) (z .1)
 
@@ -89,7 +89,7 @@ module _ (text : List ℕ) (at : ℕ) (h : at < length text) where
   rest-length : length (drop at text) ≡ length text - at
   rest-length = length-drop at text
 
-  pub line-here : Starts text at → LineAt text at (endOf text at)
+  pub line-here : StartsLine text at → LineAt text at (endOf text at)
   line-here s =
       let n = first-length (drop at text) in
       let m = rest-length in
@@ -136,9 +136,9 @@ module _ (text : List ℕ) (at : ℕ) (h : at < length text) where
       lines-cons (drop at text) (omega arith) ∙ rw (drop-drop, e)
 
 -- Behind a line that is not the last another one starts.
-pub starts-next : (text : List ℕ) (p e : ℕ) → LineAt text p e → e + 1 < length text → Starts text (e + 1)
+pub starts-next : (text : List ℕ) (p e : ℕ) → LineAt text p e → e + 1 < length text → StartsLine text (e + 1)
 starts-next text p e x h = go (x .ends)
   where
-    go : Ends text e → Starts text (e + 1)
+    go : Ends text e → StartsLine text (e + 1)
     go (inl z) = absurd (omega arith)
     go (inr z) = let k : e + 1 - 1 ≡ e = omega arith in inr (omega arith, rw k (z .1))

@@ -15,8 +15,8 @@ use Rattle.digits.proofs.DigitLaws.{within-true, digit-test}
 use Rattle.hexfile.specs.Pairs.{pairOf, paired, pairsOf, sumOf, sumsToZero}
 use Rattle.hexfile.proofs.PairLaws.{pair-split, length-pairsOf, sum-append}
 use Rattle.forms.specs.Reading.{fitsIn}
-use Rattle.intel.specs.Intel.{bytesOf, countOf, addressOf, typeOf, dataOf, wellFormed, typeBy, typed}
-use Rattle.exactly.specs.Records.{Digit, valueAt, byteAt, count, address, type, WellFormed, sumTo, SumsRight, TypeTaken, Beyond}
+use Rattle.intel.specs.Intel.{bytesIn, countOf, recordAddress, typeOf, dataOf, wellFormed, typeBy, typed}
+use Rattle.exactly.specs.Records.{Digit, valueAt, recordByte, count, address, type, WellFormed, sumTo, SumsRight, TypeTaken, Beyond}
 use Rattle.exactly.proofs.Decides.{Decides, decides-by, decides-eq}
 
 -- Digits and their values.
@@ -73,8 +73,8 @@ pairs-at (a ∷ b ∷ cs) (suc n) h =
     let q : 2 * suc n ≡ suc (suc (2 * n)) = omega arith in
     rw (p, q) (pairs-at cs n (omega arith))
 
-bytes-at : (l : List ℕ) (n : ℕ) → paired (drop 1 l) ≡ true → 2 * n + 2 < length l → getD (bytesOf l) n 0 ≡ byteAt l n
-unfolding bytesOf byteAt
+bytes-at : (l : List ℕ) (n : ℕ) → paired (drop 1 l) ≡ true → 2 * n + 2 < length l → getD (bytesIn l) n 0 ≡ recordByte l n
+unfolding bytesIn recordByte
 bytes-at l n e h =
     let m : length (drop 1 l) ≡ length l - 1 = length-drop 1 l in
     let k = length-pairsOf (drop 1 l) e in
@@ -92,8 +92,8 @@ unfolding wellFormed
 formed-well l e =
     let t = and-split (eqb (getD l 0 0) 0x3A) _ e in
     let u = and-split (paired (drop 1 l)) _ (t .1) in
-    let n : length l ≡ 11 + 2 * countOf (bytesOf l) = eqb-true _ _ (u .1) in
-    let b : getD (bytesOf l) 0 0 ≡ byteAt l 0 = bytes-at l 0 (u .0) (omega arith) in
+    let n : length l ≡ 11 + 2 * countOf (bytesIn l) = eqb-true _ _ (u .1) in
+    let b : getD (bytesIn l) 0 0 ≡ recordByte l 0 = bytes-at l 0 (u .0) (omega arith) in
     let m : length (drop 1 l) ≡ length l - 1 = length-drop 1 l in
     record {
       colon = eqb-true (getD l 0 0) 0x3A (t .0);
@@ -110,86 +110,86 @@ well-paired l w =
     let n = w .long in
     digits-paired (drop 1 l) (omega arith) (λ i z. rw (getD-drop 1 l i 0) (w .digits (1 + i) (omega arith) (omega arith)))
 
-pub well-byte : (l : List ℕ) → WellFormed l → (n : ℕ) → n < count l + 5 → getD (bytesOf l) n 0 ≡ byteAt l n
+pub well-byte : (l : List ℕ) → WellFormed l → (n : ℕ) → n < count l + 5 → getD (bytesIn l) n 0 ≡ recordByte l n
 well-byte l w n h = let m = w .long in bytes-at l n (well-paired l w) (omega arith)
 
 well-formed : (l : List ℕ) → WellFormed l → wellFormed l ≡ true
 unfolding wellFormed
 well-formed l w =
     let b = well-byte l w 0 (omega arith) in
-    let n : length l ≡ 11 + 2 * countOf (bytesOf l) = w .long ∙ rw b in
-    rw (eq-eqb (getD l 0 0) 0x3A (w .colon), well-paired l w, eq-eqb (length l) (11 + 2 * countOf (bytesOf l)) n)
+    let n : length l ≡ 11 + 2 * countOf (bytesIn l) = w .long ∙ rw b in
+    rw (eq-eqb (getD l 0 0) 0x3A (w .colon), well-paired l w, eq-eqb (length l) (11 + 2 * countOf (bytesIn l)) n)
 
 pub decides-formed : (l : List ℕ) → Decides (wellFormed l) (WellFormed l) (¬ WellFormed l)
 decides-formed l = decides-by (formed-well l) (well-formed l)
 
 -- What is known of the bytes of such a line.
 module _ (l : List ℕ) (w : WellFormed l) where
-  byte-count : length (bytesOf l) ≡ count l + 5
-  unfolding bytesOf
+  byte-count : length (bytesIn l) ≡ count l + 5
+  unfolding bytesIn
   byte-count =
       let k = length-pairsOf (drop 1 l) (well-paired l w) in
       let m : length (drop 1 l) ≡ length l - 1 = length-drop 1 l in
       let n = w .long in
       omega arith
 
-  pub same-count : countOf (bytesOf l) ≡ count l
+  pub same-count : countOf (bytesIn l) ≡ count l
   same-count = well-byte l w 0 (omega arith)
 
-  pub same-address : addressOf (bytesOf l) ≡ address l
+  pub same-address : recordAddress (bytesIn l) ≡ address l
   same-address =
       let a = well-byte l w 1 (omega arith) in
       let b = well-byte l w 2 (omega arith) in
       omega arith
 
-  pub same-type : typeOf (bytesOf l) ≡ type l
+  pub same-type : typeOf (bytesIn l) ≡ type l
   same-type = well-byte l w 3 (omega arith)
 
   -- The data are as many bytes as the count says.
-  pub data-count : length (dataOf (bytesOf l)) ≡ count l
+  pub data-count : length (dataOf (bytesIn l)) ≡ count l
   data-count =
-      let m : length (drop 4 (bytesOf l)) ≡ length (bytesOf l) - 4 = length-drop 4 (bytesOf l) in
+      let m : length (drop 4 (bytesIn l)) ≡ length (bytesIn l) - 4 = length-drop 4 (bytesIn l) in
       let n = byte-count in
-      rw same-count (length-take-le (count l) (drop 4 (bytesOf l)) (omega arith))
+      rw same-count (length-take-le (count l) (drop 4 (bytesIn l)) (omega arith))
 
   -- They are bytes.
-  pub byte-small : (n : ℕ) → n < count l + 5 → byteAt l n < 256
-  unfolding byteAt
+  pub byte-small : (n : ℕ) → n < count l + 5 → recordByte l n < 256
+  unfolding recordByte
   byte-small n h =
       let m = w .long in
       let a = value-small (getD l (2 * n + 1) 0) (w .digits (2 * n + 1) (omega arith) (omega arith)) in
       let b = value-small (getD l (2 * n + 2) 0) (w .digits (2 * n + 2) (omega arith) (omega arith)) in
       omega arith
 
-  pub data-small : (i : ℕ) → i < count l → getD (dataOf (bytesOf l)) i 0 < 256
+  pub data-small : (i : ℕ) → i < count l → getD (dataOf (bytesIn l)) i 0 < 256
   data-small i h =
       let b = byte-small (4 + i) (omega arith) in
-      let e : getD (dataOf (bytesOf l)) i 0 ≡ byteAt l (4 + i) =
-      rw same-count (getD-take (count l) (drop 4 (bytesOf l)) i 0 h) ∙ getD-drop 4 (bytesOf l) i 0 ∙ well-byte l w (4 + i) (omega arith) in
+      let e : getD (dataOf (bytesIn l)) i 0 ≡ recordByte l (4 + i) =
+      rw same-count (getD-take (count l) (drop 4 (bytesIn l)) i 0 h) ∙ getD-drop 4 (bytesIn l) i 0 ∙ well-byte l w (4 + i) (omega arith) in
       omega arith
 
   -- 13: the sum.
-  sum-first : (n : ℕ) → n ≤ count l + 5 → sumOf (take n (bytesOf l)) ≡ sumTo l n
+  sum-first : (n : ℕ) → n ≤ count l + 5 → sumOf (take n (bytesIn l)) ≡ sumTo l n
   sum-first zero h = refl
   sum-first (suc n) h =
       let m = byte-count in
-      let k = take-suc (bytesOf l) n 0 (omega arith) in
+      let k = take-suc (bytesIn l) n 0 (omega arith) in
       let b = well-byte l w n (omega arith) in
       let s = sum-first n (omega arith) in
-      let t = sum-append (take n (bytesOf l)) (getD (bytesOf l) n 0 ∷ []) in
+      let t = sum-append (take n (bytesIn l)) (getD (bytesIn l) n 0 ∷ []) in
       rw k (t ∙ (omega arith))
 
-  sum-all : sumOf (bytesOf l) ≡ sumTo l (count l + 5)
+  sum-all : sumOf (bytesIn l) ≡ sumTo l (count l + 5)
   sum-all =
       let m = byte-count in
-      let k = take-all (count l + 5) (bytesOf l) (omega arith) in
+      let k = take-all (count l + 5) (bytesIn l) (omega arith) in
       rw (sym k) (sum-first (count l + 5) (omega arith))
 
-  pub decides-sum : Decides (sumsToZero (bytesOf l)) (SumsRight l) (¬ SumsRight l)
+  pub decides-sum : Decides (sumsToZero (bytesIn l)) (SumsRight l) (¬ SumsRight l)
   decides-sum = rw sum-all (decides-eq (sumTo l (count l + 5) % 256) 0)
 
   -- 14: the type.
-  pub decides-type : Decides (typed (bytesOf l)) (TypeTaken l) (¬ TypeTaken l)
+  pub decides-type : Decides (typed (bytesIn l)) (TypeTaken l) (¬ TypeTaken l)
   unfolding typed
   decides-type = rw (same-type, same-count, same-address) (decides-by (yes (eqb (type l) 0) refl (eqb (type l) 1) refl) back)
     where
@@ -207,11 +207,11 @@ module _ (l : List ℕ) (w : WellFormed l) where
           let n : ¬ (type l ≡ 0) = λ z. omega (arith, e .0) in
           rw (ne-eqb (type l) 0 n, eq-eqb (type l) 1 (e .0), eq-eqb (count l) 0 (e .1), eq-eqb (address l) 0 (e .2))
 
-  pub decides-last : Decides (eqb (typeOf (bytesOf l)) 1) (type l ≡ 1) (¬ (type l ≡ 1))
+  pub decides-last : Decides (eqb (typeOf (bytesIn l)) 1) (type l ≡ 1) (¬ (type l ≡ 1))
   decides-last = rw same-type (decides-eq (type l) 1)
 
   -- 15: data beyond the array.
-  pub decides-within : (size : ℕ) → Decides (fitsIn size (addressOf (bytesOf l)) (length (dataOf (bytesOf l)))) (¬ Beyond size l) (Beyond size l)
+  pub decides-within : (size : ℕ) → Decides (fitsIn size (recordAddress (bytesIn l)) (length (dataOf (bytesIn l)))) (¬ Beyond size l) (Beyond size l)
   decides-within size =
       rw (same-address, data-count)
       (record {

@@ -12,7 +12,7 @@ use Rattle.lines.specs.Lines.{linesOf}
 use Rattle.cells.specs.Cells.{notGiven}
 use Rattle.forms.specs.Reading.{Heard, gives, ends, faulty, saysOf, givenOf, Reading, bad, lineBy, linesRead}
 use Rattle.intel.specs.Intel.{intel}
-use Rattle.exactly.specs.Lines.{Starts, LineAt, charactersOf}
+use Rattle.exactly.specs.Lines.{StartsLine, LineAt, charactersOf}
 use Rattle.exactly.specs.Faults.{GivesData, AllGive}
 use Rattle.exactly.proofs.Lines.{three-ways, one-end, none-within, endOf, line-here, characters-here, lines-here, starts-next}
 use Rattle.exactly.proofs.Cells.{Filled, none-filled, filled-next}
@@ -60,14 +60,14 @@ moved size text e (halt p t cells h rest x a f s n g) = halt p t cells h rest x 
 module _ (size : ℕ) (text : List ℕ) where
   -- What is left to walk.
   abbrev On : ℕ → Type 0
-  On fuel = (at : ℕ) (cells : List ℕ) → length text ≤ at + fuel → (at < length text → Starts text at) → AllGive size text at
+  On fuel = (at : ℕ) (cells : List ℕ) → length text ≤ at + fuel → (at < length text → StartsLine text at) → AllGive size text at
       → Filled size text at cells → Walked size text (readFrom text at cells)
 
   run-out : (at : ℕ) (cells : List ℕ) → length text ≤ at → AllGive size text at → Walked size text (readFrom text at cells)
   run-out at cells h a = out (read-none text at cells h) (λ q f x k. a q f x (omega arith))
 
   -- One line.
-  one : (fuel at : ℕ) (cells : List ℕ) → On fuel → at < length text → length text ≤ at + suc fuel → Starts text at → AllGive size text at
+  one : (fuel at : ℕ) (cells : List ℕ) → On fuel → at < length text → length text ≤ at + suc fuel → StartsLine text at → AllGive size text at
       → Filled size text at cells → (h : Heard) → saysOf intel (eqb at 0) cells (charactersOf text at (endOf text at)) ≡ h
       → Walked size text (readFrom text at cells)
   one fuel at cells go k m s a f gives e =

@@ -9,8 +9,8 @@ use lib.Dec.{eqb}
 use lib.ListN.{length, getD, take, drop}
 
 -- A line's first byte is the text's first or follows a line feed (Image files, a line runs to).
-abbrev pub Starts : List ℕ → ℕ → Type 0
-Starts text p = (p ≡ 0) ⊎ ((0 < p) × (getD text (p - 1) 0 ≡ 0x0A))
+abbrev pub StartsLine : List ℕ → ℕ → Type 0
+StartsLine text p = (p ≡ 0) ⊎ ((0 < p) × (getD text (p - 1) 0 ≡ 0x0A))
 
 -- It ends at a line feed or where the text does (Image files, a line runs to).
 abbrev pub Ends : List ℕ → ℕ → Type 0
@@ -19,7 +19,7 @@ Ends text e = (e ≡ length text) ⊎ ((e < length text) × (getD text e 0 ≡ 0
 -- A line from a place to another; none follows a last line feed (Image files, a line runs to).
 pub record LineAt (text : List ℕ) (p e : ℕ) : Type 0 where
   pub inside : p < length text
-  pub starts : Starts text p
+  pub starts : StartsLine text p
   pub order : p ≤ e
   pub ends : Ends text e
   pub plain : (i : ℕ) → p ≤ i → i < e → ¬ (getD text i 0 ≡ 0x0A)

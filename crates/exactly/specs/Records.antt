@@ -16,20 +16,20 @@ abbrev pub valueAt : ℕ → ℕ
 valueAt c = cond (leb c 0x39) (c - 0x30) (c - 0x37)
 
 -- Byte n of a record: two digits, the higher first, behind the colon and the bytes before (Image files).
-unfoldable pub byteAt : List ℕ → ℕ → ℕ
-byteAt l n = valueAt (getD l (2 * n + 1) 0) * 16 + valueAt (getD l (2 * n + 2) 0)
+unfoldable pub recordByte : List ℕ → ℕ → ℕ
+recordByte l n = valueAt (getD l (2 * n + 1) 0) * 16 + valueAt (getD l (2 * n + 2) 0)
 
 -- The first byte is the count (Image files, count).
 abbrev pub count : List ℕ → ℕ
-count l = byteAt l 0
+count l = recordByte l 0
 
 -- The next two are the address (Image files, 16-bit address).
 abbrev pub address : List ℕ → ℕ
-address l = byteAt l 1 * 256 + byteAt l 2
+address l = recordByte l 1 * 256 + recordByte l 2
 
 -- The fourth is the type (Image files, type).
 abbrev pub type : List ℕ → ℕ
-type l = byteAt l 3
+type l = recordByte l 3
 
 -- A line that is not malformed: a colon, digits behind it, 11 + 2 x count characters (Refusal numbers, 12; Image files).
 pub record WellFormed (l : List ℕ) : Type 0 where
@@ -40,7 +40,7 @@ pub record WellFormed (l : List ℕ) : Type 0 where
 -- The first bytes added up (Image files, all bytes of a record).
 abbrev pub sumTo : List ℕ → ℕ → ℕ
 sumTo l zero = 0
-sumTo l (suc n) = sumTo l n + byteAt l n
+sumTo l (suc n) = sumTo l n + recordByte l n
 
 -- The checksum is right: count, address, type, data and checksum sum to 0 modulo 256 (Refusal numbers, 13; Image files).
 abbrev pub SumsRight : List ℕ → Type 0

@@ -33,8 +33,8 @@ timersOf p t =
     (record { running = t .watchdog .running; left = fieldOf 4294967295 (p .watchdog) (t .watchdog .left) })
 
 -- The wire with the count of committed bits put in.
-unfoldable pub wireOf : Preset → Wire → Wire
-wireOf p w =
+unfoldable pub wirePut : Preset → Wire → Wire
+wirePut p w =
     record {
       lines = w .lines;
       frame =
@@ -57,5 +57,5 @@ deviceOf p d =
 unfoldable pub putInOf : Preset → State → State
 putInOf p s =
     withDevice
-    (withWire (withTimers (withChip s (chipOf p (s .chip))) (timersOf p (s .timers))) (wireOf p (s .wire)))
+    (withWire (withTimers (withChip s (chipOf p (s .chip))) (timersOf p (s .timers))) (wirePut p (s .wire)))
     (deviceOf p (s .device))

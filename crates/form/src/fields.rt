@@ -10,7 +10,7 @@ use part::state::Watchdog;
 use part::state::Wire;
 ghost use mathlib.Core.Path.{_≡_};
 ghost use Prim.Native.Nat.{min};
-ghost use Rattle.form.specs.Fields.{fieldOf, timersOf, deviceOf, wireOf, putInOf};
+ghost use Rattle.form.specs.Fields.{fieldOf, timersOf, deviceOf, wirePut, putInOf};
 
 const KEEP: u32 = 0xFFFF_FFFF;
 
@@ -108,7 +108,7 @@ fn preset_device(p: Preset, d: Device) -> Device
 }
 
 fn preset_wire(p: Preset, w: Wire) -> Wire
-    ensures { λ r. ⌜ r ≡ wireOf p w ⌝ }
+    ensures { λ r. ⌜ r ≡ wirePut p w ⌝ }
 {
     let lines = w.lines;
     let frame = w.frame;

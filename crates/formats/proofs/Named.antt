@@ -7,7 +7,7 @@ use native.Mathlib.Omega.{arith}
 use lib.ListN.{length, length-append}
 use lib.Seq.{sets}
 use Rattle.hexfile.proofs.PairLaws.{length-textOf}
-use Rattle.forms.specs.Parts.{Hears}
+use Rattle.forms.specs.Parts.{HearsLine}
 use Rattle.forms.specs.Reading.{saysOf}
 use Rattle.forms.specs.Writing.{closed, linesLength, Measured}
 use Rattle.forms.specs.declared.Says.{Says}
@@ -17,8 +17,8 @@ use Rattle.formats.specs.declared.Format.{Format}
 use Rattle.formats.specs.declared.Format.the-variants.{Intel}
 
 -- Intel's form takes no type in the first line only, so that its lines say the same wherever they stand.
-pub hears-named : (f : Format) (first : Bool) (line cells cells′ : List ℕ) (r : Says) → Hears intel true line cells r cells′
-    → Hears (formOf f) first line cells r cells′
+pub hears-named : (f : Format) (first : Bool) (line cells cells′ : List ℕ) (r : Says) → HearsLine intel true line cells r cells′
+    → HearsLine (formOf f) first line cells r cells′
 unfolding formOf saysOf
 hears-named Intel first line cells cells′ r h = record { said = h .said; kept = h .kept }
 

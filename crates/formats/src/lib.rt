@@ -4,7 +4,7 @@ ghost use mathlib.Core.Path.{_≡_};
 ghost use Prim.Native.Nat.{_+_, _≤_, _<_};
 ghost use lib.ListN.{length, take};
 ghost use lib.Seq.{sets};
-ghost use Rattle.forms.specs.Parts.{Hears};
+ghost use Rattle.forms.specs.Parts.{HearsLine};
 ghost use Rattle.forms.specs.Writing.{closed, linesLength};
 ghost use Rattle.formats.specs.Formats.{formOf};
 
@@ -26,7 +26,7 @@ pub fn hear(
 ) -> Says
     requires { ⌜ n ≤ length (now text) ⌝ }
     requires { ⌜ 268 ≤ length (now room) ⌝ }
-    ensures { λ r. ⌜ Hears (formOf format) first (take n (now (text .entry))) (now (cells .entry)) r (now (cells .exit)) ⌝ }
+    ensures { λ r. ⌜ HearsLine (formOf format) first (take n (now (text .entry))) (now (cells .entry)) r (now (cells .exit)) ⌝ }
 {
     match format {
         Format::Intel => intel::hear(text, n, room, cells),

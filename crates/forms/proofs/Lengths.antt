@@ -9,7 +9,7 @@ use lib.ListN.{length, take, drop, length-append, length-drop}
 use lib.Seq.{length-take-le}
 use Rattle.cells.specs.Cells.{blankOf}
 use Rattle.forms.specs.Form.{Form}
-use Rattle.forms.specs.Writing.{rowBy, rowsText, imageText, writtenBy, rowsWritten, linesLength, lengthOf, mostLength, Measured}
+use Rattle.forms.specs.Writing.{rowBy, rowsText, imageText, writtenRows, rowsWritten, linesLength, lengthOf, mostLength, Measured}
 
 -- The lines of one row more, for a count of rows that is not 0.
 pub rows-turn : (form : Form) (left address : ℕ) (bs : List ℕ) → 0 < left
@@ -19,12 +19,12 @@ rows-turn form zero address bs h = absurd (omega arith)
 rows-turn form (suc n) address bs h = let e : suc n - 1 ≡ n = omega arith in rw e
 
 pub written-turn : (left : ℕ) (bs : List ℕ) → 0 < left
-    → rowsWritten left bs ≡ writtenBy (blankOf (take 16 bs)) + rowsWritten (left - 1) (drop 16 bs)
+    → rowsWritten left bs ≡ writtenRows (blankOf (take 16 bs)) + rowsWritten (left - 1) (drop 16 bs)
 written-turn zero bs h = absurd (omega arith)
 written-turn (suc n) bs h = let e : suc n - 1 ≡ n = omega arith in rw e
 
 -- No row is written twice, and no more rows are written than there are.
-pub written-most : (b : Bool) → writtenBy b ≤ 1
+pub written-most : (b : Bool) → writtenRows b ≤ 1
 written-most true = omega arith
 written-most false = omega arith
 
@@ -53,7 +53,7 @@ module _ (form : Form) where
 module _ (form : Form) (measured : Measured form) where
   -- A row's line is as long as the form says, or there is none.
   pub length-row : (b : Bool) (address : ℕ) (row : List ℕ) → length row ≡ 16
-      → (n : ℕ) → length (rowBy form b address row) + linesLength form n ≡ linesLength form (writtenBy b + n)
+      → (n : ℕ) → length (rowBy form b address row) + linesLength form n ≡ linesLength form (writtenRows b + n)
   length-row true address row h n = let z : 0 + n ≡ n = omega arith in rw z (omega arith)
   length-row false address row h n =
       let e = measured .row address row h in

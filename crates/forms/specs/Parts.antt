@@ -21,6 +21,6 @@ pub record Places (address : ℕ) (bs cells : List ℕ) (r : Says) (cells′ : L
   pub kept : cells′ ≡ cellsBy (saysMeant r) cells (placedOf address bs cells) cells′
 
 -- A line: what it says, and the cells after it.
-pub record Hears (form : Form) (first : Bool) (line cells : List ℕ) (r : Says) (cells′ : List ℕ) : Type 0 where
+pub record HearsLine (form : Form) (first : Bool) (line cells : List ℕ) (r : Says) (cells′ : List ℕ) : Type 0 where
   pub said : saysMeant r ≡ saysOf form first cells line
   pub kept : cells′ ≡ cellsBy (saysMeant r) cells (givenOf form cells line) cells′

@@ -32,14 +32,14 @@ unfoldable pub imageText : Form → List ℕ → List ℕ
 imageText form array = rowsText form (rowsIn array) 0 array
 
 -- Whether a row is written: 1 if it is, 0 if it is all FFh (Image files, the writer).
-abbrev pub writtenBy : Bool → ℕ
-writtenBy true = 0
-writtenBy false = 1
+abbrev pub writtenRows : Bool → ℕ
+writtenRows true = 0
+writtenRows false = 1
 
 -- How many of so many rows are written (Image files, the writer).
 abbrev pub rowsWritten : ℕ → List ℕ → ℕ
 rowsWritten zero bs = 0
-rowsWritten (suc n) bs = writtenBy (blankOf (take rowSize bs)) + rowsWritten n (drop rowSize bs)
+rowsWritten (suc n) bs = writtenRows (blankOf (take rowSize bs)) + rowsWritten n (drop rowSize bs)
 
 -- Characters of so many rows' lines and of the end line (Image files, the writer; Refusal numbers, 19).
 unfoldable pub linesLength : Form → ℕ → ℕ

@@ -9,7 +9,7 @@ use Rattle.ground.specs.Verdict.{accepted}
 use Rattle.ground.specs.Numbers.{smallSize}
 use Rattle.digits.specs.Digits.{digitOf, glyphOf}
 use Rattle.lines.specs.Lines.{trimmed}
-use Rattle.intel.specs.Intel.{bytesOf, wellFormed, typed, recordLine, intel}
+use Rattle.intel.specs.Intel.{bytesIn, wellFormed, typed, recordLine, intel}
 use Rattle.forms.specs.Reading.{taken, bad, givenOf, saysOf, readingOf}
 use Rattle.forms.specs.Writing.{imageText, linesLength}
 use Rattle.image.specs.Promises.{sized, imageOf, writeVerdict}
@@ -20,7 +20,7 @@ use Rattle.image_cases.specs.ImageCases.{paperArray, paperText, P10, P11
 
 -- The text that the paper shows, read for 4,096 bytes, gives the image.
 shown-read : readingOf intel smallSize paperText ≡ taken paperArray
-unfolding readingOf trimmed saysOf wellFormed typed givenOf bytesOf digitOf
+unfolding readingOf trimmed saysOf wellFormed typed givenOf bytesIn digitOf
 shown-read = refl
 
 -- The image is written as that text.

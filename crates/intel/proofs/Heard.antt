@@ -15,9 +15,9 @@ use Rattle.ground.proofs.Tests.{and-split}
 use Rattle.hexfile.proofs.PairLaws.{pair-fits, length-pairsOf}
 use Rattle.cells.proofs.CellLaws.{fresh-nil}
 use Rattle.ground.proofs.Rows.{tail-whole}
-use Rattle.intel.specs.Intel.{bytesOf, countOf, addressOf, typeOf, dataOf, wellFormed, typed, intel}
+use Rattle.intel.specs.Intel.{bytesIn, countOf, recordAddress, typeOf, dataOf, wellFormed, typed, intel}
 use Rattle.forms.specs.Reading.{givenOf, saysOf}
-use Rattle.forms.specs.Parts.{Places, Hears}
+use Rattle.forms.specs.Parts.{Places, HearsLine}
 use Rattle.intel.specs.Parts.{Forms, recordSays, Judges}
 use Rattle.forms.specs.declared.Says.{Says}
 use Rattle.forms.specs.declared.Says.the-variants.{Ends, Faulty}
@@ -31,8 +31,8 @@ judge-untyped bs cells s t = record { said = rw (s, t); kept = refl }
 end-count : (bs : List ℕ) → typed bs ≡ true → typeOf bs ≡ 1 → countOf bs ≡ 0
 unfolding typed
 end-count bs t y =
-    let b : (eqb (countOf bs) 0 && eqb (addressOf bs) 0) ≡ true = rw y at t in
-    eqb-true (countOf bs) 0 (and-split (eqb (countOf bs) 0) (eqb (addressOf bs) 0) b .0)
+    let b : (eqb (countOf bs) 0 && eqb (recordAddress bs) 0) ≡ true = rw y at t in
+    eqb-true (countOf bs) 0 (and-split (eqb (countOf bs) 0) (eqb (recordAddress bs) 0) b .0)
 
 -- So it gives nothing, wherever.
 pub judge-end : (bs cells : List ℕ) → sumsToZero bs ≡ true → typed bs ≡ true → typeOf bs ≡ 1 → Judges bs cells Ends cells
@@ -40,16 +40,16 @@ unfolding recordSays
 judge-end bs cells s t y =
     let n : countOf bs ≡ 0 = end-count bs t y in
     let d : dataOf bs ≡ [] = rw n in
-    record { said = rw (s, t, d, y, fresh-nil (drop (addressOf bs) cells)); kept = refl }
+    record { said = rw (s, t, d, y, fresh-nil (drop (recordAddress bs) cells)); kept = refl }
 
 -- The bytes of a data record say what its data do at its address.
 pub judge-placed : (bs cells cells′ : List ℕ) (r : Says) → sumsToZero bs ≡ true → typed bs ≡ true
     → (typeOf bs ≡ 1 → ⊥) → length bs ≡ 5 + countOf bs
-    → Places (addressOf bs) (take (length bs - 1 - 4) (drop 4 bs)) cells r cells′ → Judges bs cells r cells′
+    → Places (recordAddress bs) (take (length bs - 1 - 4) (drop 4 bs)) cells r cells′ → Judges bs cells r cells′
 unfolding recordSays
 judge-placed bs cells cells′ r s t y m q =
     let d : length bs - 1 - 4 ≡ countOf bs = omega arith in
-    let p : Places (addressOf bs) (dataOf bs) cells r cells′ = rw d at q in
+    let p : Places (recordAddress bs) (dataOf bs) cells r cells′ = rw d at q in
     record { said = rw (s, t, ne-eqb (typeOf bs) 1 y) (p .said); kept = p .kept }
 
 -- A count is a byte.
@@ -67,11 +67,11 @@ both-unless false q h = refl
 
 -- A line of another length than its count says is not well formed; so is one that no count could fit.
 unformed-by-length : (line : List ℕ)
-    → (paired (drop 1 line) ≡ true → length line ≡ 11 + 2 * countOf (bytesOf line) → ⊥) → wellFormed line ≡ false
+    → (paired (drop 1 line) ≡ true → length line ≡ 11 + 2 * countOf (bytesIn line) → ⊥) → wellFormed line ≡ false
 unfolding wellFormed
 unformed-by-length line h =
     both-unless (eqb (getD line 0 0) 0x3A) _
-    (λ _. both-unless (paired (drop 1 line)) _ (λ p. ne-eqb (length line) (11 + 2 * countOf (bytesOf line)) (h p)))
+    (λ _. both-unless (paired (drop 1 line)) _ (λ p. ne-eqb (length line) (11 + 2 * countOf (bytesIn line)) (h p)))
 
 pub unformed : (line room : List ℕ) → wellFormed line ≡ false → Forms line false room
 unformed line room h = record { said = sym h; bytes = λ t. absurd (let z : _≡_ {A = ℕ} 0 1 = cc in omega arith) }
@@ -80,7 +80,7 @@ short-unformed : (line room : List ℕ) → length line < 11 → Forms line fals
 short-unformed line room h = unformed line room (unformed-by-length line (λ _ e. omega arith))
 
 long-unformed : (line room : List ℕ) → 521 < length line → Forms line false room
-unfolding bytesOf
+unfolding bytesIn
 long-unformed line room h =
     unformed line room (unformed-by-length line (λ p e. omega (arith, count-fits (drop 1 line) p)))
 
@@ -95,8 +95,8 @@ pairs-unformed line room d =
     unformed line room (rw (sym (d .said)) (and-false (eqb (getD line 0 0) 0x3A)))
 
 -- The bytes of a line of pairs, and their number.
-bytes-half : (line : List ℕ) → 11 ≤ length line → paired (drop 1 line) ≡ true → length (bytesOf line) ≡ length line / 2
-unfolding bytesOf
+bytes-half : (line : List ℕ) → 11 ≤ length line → paired (drop 1 line) ≡ true → length (bytesIn line) ≡ length line / 2
+unfolding bytesIn
 bytes-half line h p =
     let n : length (drop 1 line) ≡ length line - 1 = length-drop 1 line in
     let m : 2 * length (pairsOf (drop 1 line)) ≡ length (drop 1 line) = length-pairsOf (drop 1 line) p in
@@ -104,7 +104,7 @@ bytes-half line h p =
 
 formed : (line room : List ℕ) → 11 ≤ length line → getD line 0 0 ≡ 0x3A → Decodes (drop 1 line) true room
     → Forms line (eqb (length line) (11 + 2 * getD room 0 0)) room
-unfolding wellFormed bytesOf
+unfolding wellFormed bytesIn
 formed line room h c d =
     let p : paired (drop 1 line) ≡ true = sym (d .said) in
     let m : length (pairsOf (drop 1 line)) ≡ length line / 2 = bytes-half line h p in
@@ -143,23 +143,23 @@ module _ (text room : List ℕ) (n : ℕ) (h : n ≤ length text) where
 
 -- A well-formed line has its count of data and five bytes more: half as many as characters.
 formed-count : (line : List ℕ) → wellFormed line ≡ true
-    → (length (bytesOf line) ≡ length line / 2) × (length (bytesOf line) ≡ 5 + countOf (bytesOf line))
+    → (length (bytesIn line) ≡ length line / 2) × (length (bytesIn line) ≡ 5 + countOf (bytesIn line))
 unfolding wellFormed
 formed-count line h =
-    let sized : Bool = eqb (length line) (11 + 2 * countOf (bytesOf line)) in
+    let sized : Bool = eqb (length line) (11 + 2 * countOf (bytesIn line)) in
     let q = and-split (eqb (getD line 0 0) 0x3A) (paired (drop 1 line) && sized) h in
     let t = and-split (paired (drop 1 line)) sized (q .1) in
-    let e : length line ≡ 11 + 2 * countOf (bytesOf line) =
-    eqb-true (length line) (11 + 2 * countOf (bytesOf line)) (t .1) in
-    let m : length (bytesOf line) ≡ length line / 2 = bytes-half line (omega arith) (t .0) in
+    let e : length line ≡ 11 + 2 * countOf (bytesIn line) =
+    eqb-true (length line) (11 + 2 * countOf (bytesIn line)) (t .1) in
+    let m : length (bytesIn line) ≡ length line / 2 = bytes-half line (omega arith) (t .0) in
     (m, omega arith)
 
 -- So they are at most as many as those of the longest record.
 formed-most : (line : List ℕ) → wellFormed line ≡ true → length line / 2 ≤ 260
-unfolding wellFormed bytesOf
+unfolding wellFormed bytesIn
 formed-most line h =
     let n = formed-count line h in
-    let sized : Bool = eqb (length line) (11 + 2 * countOf (bytesOf line)) in
+    let sized : Bool = eqb (length line) (11 + 2 * countOf (bytesIn line)) in
     let q = and-split (eqb (getD line 0 0) 0x3A) (paired (drop 1 line) && sized) h in
     let k = count-fits (drop 1 line) (and-split (paired (drop 1 line)) sized (q .1) .0) in
     omega arith
@@ -173,7 +173,7 @@ module _ (text room : List ℕ) (n : ℕ) (h : n ≤ length text) (f : Forms (ta
   pub room-fits : n / 2 ≤ 260
   room-fits = rw line-length at (formed-most (take n text) (sym (f .said)))
 
-  line-bytes : take (n / 2) room ≡ bytesOf (take n text)
+  line-bytes : take (n / 2) room ≡ bytesIn (take n text)
   line-bytes = rw line-length at (f .bytes refl)
 
   pub room-count : (room′ : List ℕ) (r : Bool) → SumsUp room (n / 2) r room′
@@ -185,20 +185,20 @@ module _ (text room : List ℕ) (n : ℕ) (h : n ≤ length text) (f : Forms (ta
 
   -- A line of a wrong sum, and one that says what its bytes do.
   pub hear-unsound : (room′ cells : List ℕ) {r : Bool} → SumsUp room (n / 2) r room′ → r ≡ false
-      → Hears intel true (take n text) cells (Faulty 13) cells
+      → HearsLine intel true (take n text) cells (Faulty 13) cells
   unfolding saysOf
   hear-unsound room′ cells u t =
-      let s : sumsToZero (bytesOf (take n text)) ≡ false = rw line-bytes at (sym (u .said) ∙ t) in
+      let s : sumsToZero (bytesIn (take n text)) ≡ false = rw line-bytes at (sym (u .said) ∙ t) in
       record { said = rw (sym (f .said), s); kept = refl }
 
   pub hear-formed : (room′ cells cells′ : List ℕ) (r : Says) {b : Bool} → SumsUp room (n / 2) b room′
-      → Judges (take (n / 2) room′) cells r cells′ → Hears intel true (take n text) cells r cells′
+      → Judges (take (n / 2) room′) cells r cells′ → HearsLine intel true (take n text) cells r cells′
   unfolding saysOf givenOf recordSays
   hear-formed room′ cells cells′ r u j =
-      let k : Judges (bytesOf (take n text)) cells r cells′ = rw (u .bytes, line-bytes) at j in
+      let k : Judges (bytesIn (take n text)) cells r cells′ = rw (u .bytes, line-bytes) at j in
       record { said = rw (sym (f .said)) (k .said); kept = k .kept }
 
 -- A line that is not well formed.
-pub hear-unformed : (line room cells : List ℕ) → Forms line false room → Hears intel true line cells (Faulty 12) cells
+pub hear-unformed : (line room cells : List ℕ) → Forms line false room → HearsLine intel true line cells (Faulty 12) cells
 unfolding saysOf
 hear-unformed line room cells f = record { said = rw (sym (f .said)); kept = refl }

@@ -25,16 +25,16 @@ abbrev pub charactersIn : ℕ → ℕ
 charactersIn count = 11 + 2 * count
 
 -- A record's bytes: those of the pairs after the colon, checksum included (Image files, colon).
-unfoldable pub bytesOf : List ℕ → List ℕ
-bytesOf l = pairsOf (drop 1 l)
+unfoldable pub bytesIn : List ℕ → List ℕ
+bytesIn l = pairsOf (drop 1 l)
 
 -- The first byte of a record is its count (Image files, count).
 abbrev pub countOf : List ℕ → ℕ
 countOf bs = getD bs 0 0
 
 -- The next two are its address, the higher first (Image files, 16-bit address).
-abbrev pub addressOf : List ℕ → ℕ
-addressOf bs = getD bs 1 0 * byteValues + getD bs 2 0
+abbrev pub recordAddress : List ℕ → ℕ
+recordAddress bs = getD bs 1 0 * byteValues + getD bs 2 0
 
 -- The fourth is its type (Image files, type).
 abbrev pub typeOf : List ℕ → ℕ
@@ -46,7 +46,7 @@ dataOf bs = take (countOf bs) (drop 4 bs)
 
 -- A line is well formed: a colon, then pairs of digits, and as many characters as its count says (Refusal numbers, 12).
 unfoldable pub wellFormed : List ℕ → Bool
-wellFormed l = eqb (getD l 0 0) colon && (paired (drop 1 l) && eqb (length l) (charactersIn (countOf (bytesOf l))))
+wellFormed l = eqb (getD l 0 0) colon && (paired (drop 1 l) && eqb (length l) (charactersIn (countOf (bytesIn l))))
 
 -- Data, the end with neither count nor address, or a type that is not taken (Refusal numbers, 14).
 abbrev pub typeBy : Bool → Bool → Bool → Bool → Bool
@@ -56,7 +56,7 @@ typeBy false false noCount noAddress = false
 
 -- Whether a record's type is taken (Refusal numbers, 14).
 unfoldable pub typed : List ℕ → Bool
-typed bs = typeBy (eqb (typeOf bs) dataType) (eqb (typeOf bs) endType) (eqb (countOf bs) 0) (eqb (addressOf bs) 0)
+typed bs = typeBy (eqb (typeOf bs) dataType) (eqb (typeOf bs) endType) (eqb (countOf bs) 0) (eqb (recordAddress bs) 0)
 
 -- The bytes of a record before its checksum: count, address, type, data (Image files).
 abbrev pub fieldsOf : ℕ → ℕ → List ℕ → List ℕ
@@ -71,11 +71,11 @@ abbrev pub intel : Form
 intel =
     record {
       formed = wellFormed;
-      summed = λ l. sumsToZero (bytesOf l);
-      typed = λ first l. typed (bytesOf l);
-      address = λ l. addressOf (bytesOf l);
-      content = λ l. dataOf (bytesOf l);
-      last = λ l. eqb (typeOf (bytesOf l)) endType;
+      summed = λ l. sumsToZero (bytesIn l);
+      typed = λ first l. typed (bytesIn l);
+      address = λ l. recordAddress (bytesIn l);
+      content = λ l. dataOf (bytesIn l);
+      last = λ l. eqb (typeOf (bytesIn l)) endType;
       row = λ address row. recordLine address dataType row;
       end = recordLine 0 endType [];
       rowLength = charactersIn rowSize + 1;

@@ -9,7 +9,7 @@ ghost use lib.Dec.{eqb};
 ghost use lib.ListN.{length, getD, take};
 ghost use Rattle.hexfile.specs.Pairs.{sumsToZero};
 ghost use Rattle.intel.specs.Intel.{intel, charactersIn, typeBy};
-ghost use Rattle.forms.specs.Parts.{Hears};
+ghost use Rattle.forms.specs.Parts.{HearsLine};
 ghost use Rattle.intel.specs.Parts.{Forms, Judges};
 
 pub const COLON: u8 = 0x3A;
@@ -101,7 +101,7 @@ fn judge(bytes: &[u8], cells: &mut [u16]) -> Says
 pub fn hear(text: &[u8], n: usize, room: &mut [u8], cells: &mut [u16]) -> Says
     requires { ⌜ n ≤ length (now text) ⌝ }
     requires { ⌜ 268 ≤ length (now room) ⌝ }
-    ensures { λ r. ⌜ Hears intel true (take n (now (text .entry))) (now (cells .entry)) r (now (cells .exit)) ⌝ }
+    ensures { λ r. ⌜ HearsLine intel true (take n (now (text .entry))) (now (cells .entry)) r (now (cells .exit)) ⌝ }
 {
     if form(text, n, room) {
         let count = n / 2;

@@ -7,7 +7,7 @@ use native.Mathlib.Omega.{arith}
 use lib.Dec.{eqb}
 use borrow.Author.Tests.{eqb-true}
 use Rattle.ground.proofs.Tests.{and-split}
-use Rattle.intel.specs.Intel.{dataType, endType, bytesOf, countOf, addressOf, typeOf, dataOf, typeBy, typed, recordLine, intel}
+use Rattle.intel.specs.Intel.{dataType, endType, bytesIn, countOf, recordAddress, typeOf, dataOf, typeBy, typed, recordLine, intel}
 use Rattle.formats.proofs.Named.{intel-measured}
 use Rattle.round_trip.specs.Sound.{Sound}
 use Rattle.intel_trip.proofs.Records.{record-row, record-end}
@@ -30,13 +30,13 @@ module _ (bs : List ℕ) (t : typed bs ≡ true) where
   unfolding typed
   is-data e =
       eqb-true (typeOf bs) dataType
-      (data-by (eqb (typeOf bs) dataType) (eqb (typeOf bs) endType) (eqb (countOf bs) 0) (eqb (addressOf bs) 0) t e)
+      (data-by (eqb (typeOf bs) dataType) (eqb (typeOf bs) endType) (eqb (countOf bs) 0) (eqb (recordAddress bs) 0) t e)
 
-  is-end : typeOf bs ≡ endType → (countOf bs ≡ 0) × (addressOf bs ≡ 0)
+  is-end : typeOf bs ≡ endType → (countOf bs ≡ 0) × (recordAddress bs ≡ 0)
   unfolding typed
   is-end e =
-      let s = end-by (eqb (typeOf bs) dataType) (eqb (typeOf bs) endType) (eqb (countOf bs) 0) (eqb (addressOf bs) 0) t (rw e) in
-      (eqb-true (countOf bs) 0 (s .0), eqb-true (addressOf bs) 0 (s .1))
+      let s = end-by (eqb (typeOf bs) dataType) (eqb (typeOf bs) endType) (eqb (countOf bs) 0) (eqb (recordAddress bs) 0) t (rw e) in
+      (eqb-true (countOf bs) 0 (s .0), eqb-true (recordAddress bs) 0 (s .1))
 
 -- The laws.
 pub intel-sound : Sound intel
@@ -48,14 +48,14 @@ intel-sound =
           record-row address row (record { count = omega arith; address = h; type = omega arith; bytes = b });
       end = record-end;
       row-back = λ first l j e n.
-          let y = is-data (bytesOf l) (j .typed) e in (
+          let y = is-data (bytesIn l) (j .typed) e in (
             line-back l (j .formed) (j .summed)
-                ∙ ap (λ (t : ℕ). recordLine (addressOf (bytesOf l)) t (dataOf (bytesOf l))) y,
+                ∙ ap (λ (t : ℕ). recordLine (recordAddress (bytesIn l)) t (dataOf (bytesIn l))) y,
             data-bytes l (j .formed),
           );
       end-back = λ first l j e.
-          let y = eqb-true (typeOf (bytesOf l)) endType e in
-          let z = is-end (bytesOf l) (j .typed) y in
-          let d : dataOf (bytesOf l) ≡ [] = rw (z .0) in
+          let y = eqb-true (typeOf (bytesIn l)) endType e in
+          let z = is-end (bytesIn l) (j .typed) y in
+          let d : dataOf (bytesIn l) ≡ [] = rw (z .0) in
           line-back l (j .formed) (j .summed) ∙ rw (y, z .1, d);
     }

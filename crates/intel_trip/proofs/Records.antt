@@ -12,7 +12,7 @@ use borrow.Author.Tests.{lt-ltb, eq-eqb}
 use Rattle.ground.specs.Numbers.{byteValues}
 use Rattle.hexfile.specs.Pairs.{textOf, sumsToZero, checkOf}
 use Rattle.hexfile.proofs.PairLaws.{length-textOf}
-use Rattle.intel.specs.Intel.{colon, dataType, endType, charactersIn, bytesOf, countOf, addressOf, typeOf, dataOf, wellFormed, typed, fieldsOf, recordLine, intel}
+use Rattle.intel.specs.Intel.{colon, dataType, endType, charactersIn, bytesIn, countOf, recordAddress, typeOf, dataOf, wellFormed, typed, fieldsOf, recordLine, intel}
 use Rattle.round_trip.specs.Words.{allBytes}
 use Rattle.round_trip.specs.Sound.{Written, SaysRow, SaysEnd}
 use Rattle.round_trip.proofs.Tests.{bytes-append}
@@ -28,7 +28,7 @@ recordBytes a t d = checked (fieldsOf a t d)
 
 -- A line of bytes is well formed if there are five more of them than their count says.
 line-formed : (bs : List ℕ) → allBytes bs ≡ true → countOf bs + 5 ≡ length bs → wellFormed (lineOf bs) ≡ true
-unfolding wellFormed bytesOf
+unfolding wellFormed bytesIn
 line-formed bs e h =
     rw (
       paired-text bs e,
@@ -40,7 +40,7 @@ line-formed bs e h =
 -- What bytes say of a record: its count, address, type and data.
 pub record Fields (a t : ℕ) (d bs : List ℕ) : Type 0 where
   pub count : countOf bs ≡ length d
-  pub address : addressOf bs ≡ a
+  pub address : recordAddress bs ≡ a
   pub type : typeOf bs ≡ t
   pub content : dataOf bs ≡ d
 
@@ -76,8 +76,8 @@ module _ (a t : ℕ) (d : List ℕ) (w : Writable a t d) where
       )
 
   -- Its line gives its bytes.
-  pub record-read : bytesOf (recordLine a t d) ≡ recordBytes a t d
-  unfolding bytesOf recordLine
+  pub record-read : bytesIn (recordLine a t d) ≡ recordBytes a t d
+  unfolding bytesIn recordLine
   record-read = pairs-text (recordBytes a t d) record-bytes
 
   -- Its line is well formed.
@@ -111,7 +111,7 @@ record-row a d w =
     let e = record-read a dataType d w in
     record {
       written = record-written a dataType d w (data-typed a d);
-      address = ap addressOf e ∙ q .address;
+      address = ap recordAddress e ∙ q .address;
       content = ap dataOf e ∙ q .content;
       more = ap (λ (bs : List ℕ). eqb (typeOf bs) endType) e;
     }

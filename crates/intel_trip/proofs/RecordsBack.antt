@@ -13,7 +13,7 @@ use Rattle.ground.specs.Numbers.{byteValues}
 use Rattle.hexfile.specs.Pairs.{paired, pairsOf, textOf, sumsToZero}
 use Rattle.ground.proofs.Tests.{and-split}
 use Rattle.hexfile.proofs.PairLaws.{length-pairsOf, text-pairs}
-use Rattle.intel.specs.Intel.{colon, charactersIn, bytesOf, countOf, addressOf, typeOf, dataOf, wellFormed, fieldsOf, recordLine}
+use Rattle.intel.specs.Intel.{colon, charactersIn, bytesIn, countOf, recordAddress, typeOf, dataOf, wellFormed, fieldsOf, recordLine}
 use Rattle.round_trip.specs.Words.{allBytes}
 use Rattle.round_trip.proofs.Tests.{bytes-at, bytes-parts}
 use Rattle.intel_trip.proofs.Spelling.{pairs-bytes, checked, check-last}
@@ -37,7 +37,7 @@ fields-made c high low type k d n h g e =
 
 -- A record's bytes, as many as its count says, are the fields that they state, and their checksum.
 fields-back : (bs : List ℕ) → allBytes bs ≡ true → length bs ≡ 5 + countOf bs → sumsToZero bs ≡ true
-    → bs ≡ recordBytes (addressOf bs) (typeOf bs) (dataOf bs)
+    → bs ≡ recordBytes (recordAddress bs) (typeOf bs) (dataOf bs)
 fields-back [] a n e = absurd (omega arith)
 fields-back (c ∷ []) a n e = absurd (omega arith)
 fields-back (c ∷ high ∷ []) a n e = absurd (omega arith)
@@ -56,11 +56,11 @@ fields-back (c ∷ high ∷ low ∷ type ∷ rest) a n e =
 record Formed (l : List ℕ) : Type 0 where
   opened : l ≡ colon ∷ drop 1 l
   pairs : paired (drop 1 l) ≡ true
-  sized : length (bytesOf l) ≡ 5 + countOf (bytesOf l)
+  sized : length (bytesIn l) ≡ 5 + countOf (bytesIn l)
 
 -- A line that passes the test has these.
 formed : (l : List ℕ) → wellFormed l ≡ true → Formed l
-unfolding wellFormed bytesOf
+unfolding wellFormed bytesIn
 formed [] e = absurd (true≢false (cc))
 formed (c ∷ cs) e =
     let most : ℕ = charactersIn (countOf (pairsOf cs)) in
@@ -71,20 +71,20 @@ formed (c ∷ cs) e =
     record { opened = ap (λ (x : ℕ). x ∷ cs) (eqb-true c colon (t .0)); pairs = u .0; sized = omega arith }
 
 -- The data of a well-formed line are bytes.
-pub data-bytes : (l : List ℕ) → wellFormed l ≡ true → allBytes (dataOf (bytesOf l)) ≡ true
-unfolding bytesOf
+pub data-bytes : (l : List ℕ) → wellFormed l ≡ true → allBytes (dataOf (bytesIn l)) ≡ true
+unfolding bytesIn
 data-bytes l e =
     let a = pairs-bytes (drop 1 l) (formed l e .pairs) in
-    bytes-parts (countOf (bytesOf l)) (drop 4 (bytesOf l)) (bytes-parts 4 (bytesOf l) a .1) .0
+    bytes-parts (countOf (bytesIn l)) (drop 4 (bytesIn l)) (bytes-parts 4 (bytesIn l) a .1) .0
 
 -- A sound line is the record that the writer makes of what the line states.
-pub line-back : (l : List ℕ) → wellFormed l ≡ true → sumsToZero (bytesOf l) ≡ true
-    → l ≡ recordLine (addressOf (bytesOf l)) (typeOf (bytesOf l)) (dataOf (bytesOf l))
-unfolding bytesOf recordLine
+pub line-back : (l : List ℕ) → wellFormed l ≡ true → sumsToZero (bytesIn l) ≡ true
+    → l ≡ recordLine (recordAddress (bytesIn l)) (typeOf (bytesIn l)) (dataOf (bytesIn l))
+unfolding bytesIn recordLine
 line-back l e s =
     let t = formed l e in
     let a = pairs-bytes (drop 1 l) (t .pairs) in
     let b = text-pairs (drop 1 l) (t .pairs) in
     t .opened
     ∙ ap (λ (r : List ℕ). colon ∷ r) (sym b)
-    ∙ ap (λ (r : List ℕ). colon ∷ textOf r) (fields-back (bytesOf l) a (t .sized) s)
+    ∙ ap (λ (r : List ℕ). colon ∷ textOf r) (fields-back (bytesIn l) a (t .sized) s)

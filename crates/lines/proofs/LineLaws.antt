@@ -8,7 +8,7 @@ use lib.Dec.{eqb}
 use lib.ListN.{length, getD, take, drop, length-drop, drop-of-length-le}
 use lib.Seq.{drop-cons, drop-drop, getD-take, getD-drop, length-take-le, take-length}
 use borrow.Author.Tests.{eq-eqb, ne-eqb}
-use Rattle.lines.specs.Lines.{lineFeed, carriageReturn, joinBy, linesOf, firstLine, trimBy, trimmed, stepOf, lineAt, noLine}
+use Rattle.lines.specs.Lines.{lineFeed, carriageReturn, joinBy, linesOf, firstLine, trimBy, trimmed, lineStepOf, lineAt, noLine}
 use Rattle.lines.specs.Parts.{feedIn, Skips}
 use Rattle.ground.proofs.Tests.{or-split}
 
@@ -172,15 +172,15 @@ line-fits text at h =
 pub step-line : (text : List ℕ) (at feed trim : ℕ) → at < length text
     → feed ≡ at + length (firstLine (linesOf (drop at text)))
     → trim ≡ at + length (trimmed (take (feed - at) (drop at text)))
-    → lineAt trim feed ≡ stepOf at (linesOf (drop at text))
-unfolding stepOf
+    → lineAt trim feed ≡ lineStepOf at (linesOf (drop at text))
+unfolding lineStepOf
 step-line text at feed trim h e t =
     let n : feed - at ≡ length (firstLine (linesOf (drop at text))) = omega arith in
     let f = rw (n, ← first-take (drop at text)) at t in
     rw (lines-cons (drop at text) (simp length-drop (omega arith)), f, e)
 
-pub step-end : (text : List ℕ) (at : ℕ) → length text ≤ at → noLine ≡ stepOf at (linesOf (drop at text))
-unfolding stepOf
+pub step-end : (text : List ℕ) (at : ℕ) → length text ≤ at → noLine ≡ lineStepOf at (linesOf (drop at text))
+unfolding lineStepOf
 step-end text at h = rw (drop-of-length-le text h)
 
 -- One turn of the search for a line feed: a character is tested, and what is left after it.

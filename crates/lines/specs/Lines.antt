@@ -41,16 +41,16 @@ unfoldable pub trimmed : List ℕ → List ℕ
 trimmed l = trimBy (eqb (getD l (length l - 1) 0) carriageReturn) l
 
 -- A line step: a line, with where its characters end without and with its carriage return, or the end (Image files).
-pub data Step : Type 0 where
-  lineAt : ℕ → ℕ → Step
-  noLine : Step
+pub data LineStep : Type 0 where
+  lineAt : ℕ → ℕ → LineStep
+  noLine : LineStep
 
 -- What each case of the code's answer says.
-abbrev pub stepMeant : Line → Step
+abbrev pub stepMeant : Line → LineStep
 stepMeant (At t f) = lineAt t f
 stepMeant End = noLine
 
 -- The step at a place, given the lines that are left from there on (Image files, a line runs to).
-unfoldable pub stepOf : ℕ → List (List ℕ) → Step
-stepOf at [] = noLine
-stepOf at (l ∷ ls) = lineAt (at + length (trimmed l)) (at + length l)
+unfoldable pub lineStepOf : ℕ → List (List ℕ) → LineStep
+lineStepOf at [] = noLine
+lineStepOf at (l ∷ ls) = lineAt (at + length (trimmed l)) (at + length l)

@@ -2,7 +2,7 @@
 ghost use mathlib.Core.Path.{_≡_};
 ghost use Prim.Native.Nat.{_+_, _-_, _≤_};
 ghost use lib.ListN.{length, take, drop};
-ghost use Rattle.lines.specs.Lines.{firstLine, linesOf, stepMeant, stepOf, trimmed};
+ghost use Rattle.lines.specs.Lines.{firstLine, linesOf, stepMeant, lineStepOf, trimmed};
 ghost use Rattle.lines.specs.Parts.{feedIn, Skips};
 
 pub const LINE_FEED: u8 = 10;
@@ -85,7 +85,7 @@ fn trim(text: &[u8], at: usize, feed: usize) -> usize
 
 // The line that starts at `at`, or the end.
 pub fn next_line(text: &[u8], at: usize) -> Line
-    ensures { λ r. ⌜ stepMeant r ≡ stepOf at (linesOf (drop at (now (text .entry)))) ⌝ }
+    ensures { λ r. ⌜ stepMeant r ≡ lineStepOf at (linesOf (drop at (now (text .entry)))) ⌝ }
 {
     if at < text.len() {
         let end = feed(text, at);

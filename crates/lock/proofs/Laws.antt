@@ -1,7 +1,7 @@
 -- Laws of the locked extents. Assumes nothing.
 use Prim.Native.Nat.{ℕ, zero, suc, _<_, _≤_}
 use Rattle.ground.specs.declared.kinds.Kind.{Kind}
-use Rattle.lock.specs.Lock.{extentOf, blockCode, within, lockedOf, extentTable, firstPages}
+use Rattle.lock.specs.Lock.{extentOf, blockCode, inExtent, lockedOf, extentTable, firstPages}
 use Rattle.page.specs.Page.{pageOf}
 use Rattle.part.specs.declared.state.Place.{Place}
 use lib.ListN.{List·getD-eq-default}
@@ -28,4 +28,4 @@ past-seven n h a b c d e = omega arith
 -- A lock is the same all over a page.
 pub lock-of-page : (k : Kind) (stored : ℕ) (p q : Place) → pageOf p ≡ pageOf q → lockedOf k stored p ≡ lockedOf k stored q
 unfolding lockedOf
-lock-of-page k stored p q e = ap (within (extentOf k (blockCode stored))) e
+lock-of-page k stored p q e = ap (inExtent (extentOf k (blockCode stored))) e

@@ -27,10 +27,10 @@ extentTable k =
 unfoldable pub extentOf : Kind → ℕ → Extent
 extentOf k code = getD (extentTable k) code (firstPages 0)
 
--- Whether a page lies within an extent (Control register).
-abbrev pub within : Extent → ℕ → Bool
-within x page = leb (x .from) page && ltb page (x .to)
+-- Whether a page lies inExtent an extent (Control register).
+abbrev pub inExtent : Extent → ℕ → Bool
+inExtent x page = leb (x .from) page && ltb page (x .to)
 
 -- Whether a place lies in a block that the control byte locks (Control register; Bytes on the wire, array data).
 unfoldable pub lockedOf : Kind → ℕ → Place → Bool
-lockedOf k stored p = within (extentOf k (blockCode stored)) (pageOf p)
+lockedOf k stored p = inExtent (extentOf k (blockCode stored)) (pageOf p)

@@ -6,7 +6,7 @@ use native.Mathlib.Omega.{arith}
 use lib.Dec.{eqb}
 use lib.ListN.{length, take, drop, length-drop}
 use lib.Seq.{drop-drop, take-take}
-use Rattle.lines.specs.Lines.{lineAt, noLine, linesOf, firstLine, trimmed, stepMeant, stepOf}
+use Rattle.lines.specs.Lines.{lineAt, noLine, linesOf, firstLine, trimmed, stepMeant, lineStepOf}
 use Rattle.lines.specs.declared.Line.{Line}
 use Rattle.lines.specs.declared.Line.the-variants.{At, End}
 use Rattle.cells.specs.Cells.{settledOf}
@@ -15,15 +15,15 @@ use Rattle.ground.specs.Verdict.{meant}
 use Rattle.ground.specs.declared.Reply.the-variants.{Accepted, Refused}
 use Rattle.forms.specs.Form.{Form}
 use Rattle.forms.specs.Reading.{Heard, saysMeant, taken, bad, givenOf, saysOf, lineBy, linesRead}
-use Rattle.forms.specs.Parts.{Hears}
+use Rattle.forms.specs.Parts.{HearsLine}
 use Rattle.reader.specs.Parts.{ReadsLines}
 use Rattle.forms.specs.declared.Says.{Says}
 use Rattle.forms.specs.declared.Says.the-variants.{Gives, Ends, Faulty}
 
 -- A line step that answers a line has lines before it, and the line's two ends are those of the first.
-step-at : (ls : List (List ℕ)) (at t f : ℕ) → stepOf at ls ≡ lineAt t f
+step-at : (ls : List (List ℕ)) (at t f : ℕ) → lineStepOf at ls ≡ lineAt t f
     → (ls ≡ [] → ⊥) × (t ≡ at + length (trimmed (firstLine ls))) × (f ≡ at + length (firstLine ls))
-unfolding stepOf
+unfolding lineStepOf
 step-at [] at t f e = let z : _≡_ {A = ℕ} 0 1 = cc in absurd (omega arith)
 step-at (l ∷ ls) at t f e =
     let p : at + length (trimmed l) ≡ t = cc in
@@ -31,8 +31,8 @@ step-at (l ∷ ls) at t f e =
     (λ h. let z : _≡_ {A = ℕ} 0 1 = cc in omega arith, omega arith, omega arith)
 
 -- And one that answers the end has none.
-step-none : (ls : List (List ℕ)) (at : ℕ) → stepOf at ls ≡ noLine → ls ≡ []
-unfolding stepOf
+step-none : (ls : List (List ℕ)) (at : ℕ) → lineStepOf at ls ≡ noLine → ls ≡ []
+unfolding lineStepOf
 step-none [] at e = refl
 step-none (l ∷ ls) at e = let z : _≡_ {A = ℕ} 0 1 = cc in absurd (omega arith)
 
@@ -51,7 +51,7 @@ pub record Found (text : List ℕ) (at t f : ℕ) : Type 0 where
   pub lines : linesOf (drop at text) ≡ firstLine (linesOf (drop at text)) ∷ linesOf (drop (f + 1) text)
   pub place : f ≡ at + length (firstLine (linesOf (drop at text)))
 
-pub found : (text : List ℕ) (at t f : ℕ) (r : Line) → stepMeant r ≡ stepOf at (linesOf (drop at text)) → r ≡ At t f
+pub found : (text : List ℕ) (at t f : ℕ) (r : Line) → stepMeant r ≡ lineStepOf at (linesOf (drop at text)) → r ≡ At t f
     → Found text at t f
 found text at t f r e g =
     let l : List ℕ = firstLine (linesOf (drop at text)) in
@@ -86,7 +86,7 @@ module _ (form : Form) where
   turn-line total at next cells line l all ls r e f g h = rw (h, f, g, e)
 
   -- Where no line is left there is no end record.
-  pub turn-none : (text cells : List ℕ) (at : ℕ) (r : Line) → stepMeant r ≡ stepOf at (linesOf (drop at text)) → r ≡ End
+  pub turn-none : (text cells : List ℕ) (at : ℕ) (r : Line) → stepMeant r ≡ lineStepOf at (linesOf (drop at text)) → r ≡ End
       → linesRead form (length text) at cells (linesOf (drop at text)) ≡ bad 17 (length text)
   turn-none text cells at r e g = rw (step-none (linesOf (drop at text)) at (sym e ∙ ap stepMeant g))
 
@@ -104,7 +104,7 @@ module _ (form : Form) where
 
 -- A line that was found in a text and heard.
 module _ (form : Form) (text cells cells′ : List ℕ) (at t f : ℕ) (r : Says) (w : Found text at t f)
-    (h : Hears form (eqb at 0) (take (t - at) (drop at text)) cells r cells′) where
+    (h : HearsLine form (eqb at 0) (take (t - at) (drop at text)) cells r cells′) where
   turn : linesRead form (length text) at cells (linesOf (drop at text))
       ≡ lineBy (saysMeant r) at (f + 1) cells (linesOf (drop (f + 1) text))
       (linesRead form (length text) (f + 1) (givenOf form cells (take (t - at) (drop at text))) (linesOf (drop (f + 1) text)))

@@ -10,7 +10,7 @@ use Rattle.ground.specs.Numbers.{byteValues}
 use Rattle.lines.specs.Lines.{lineFeed, carriageReturn}
 use Rattle.lines.proofs.LineLaws.{Plain}
 use Rattle.ground.proofs.Tests.{and-split}
-use Rattle.round_trip.specs.Words.{all, allBytes, noReturn, noFeed}
+use Rattle.round_trip.specs.Words.{eachIs, allBytes, noReturn, noFeed}
 
 -- Three tests hold together however they are bracketed.
 and-assoc : (a b c : Bool) → (a && (b && c)) ≡ ((a && b) && c)
@@ -19,23 +19,23 @@ and-assoc false b c = refl
 
 module _ (t : ℕ → Bool) where
   -- A test holds of two lists joined if it holds of both.
-  pub all-append : (xs ys : List ℕ) → all t (xs ++ ys) ≡ (all t xs && all t ys)
+  pub all-append : (xs ys : List ℕ) → eachIs t (xs ++ ys) ≡ (eachIs t xs && eachIs t ys)
   all-append [] ys = refl
   all-append (x ∷ xs) ys = rw (all-append xs ys, and-assoc)
 
   -- Where it holds of two lists joined, it holds of each.
-  pub all-split : (xs ys : List ℕ) → all t (xs ++ ys) ≡ true → (all t xs ≡ true) × (all t ys ≡ true)
-  all-split xs ys e = and-split (all t xs) (all t ys) (sym (all-append xs ys) ∙ e)
+  pub all-split : (xs ys : List ℕ) → eachIs t (xs ++ ys) ≡ true → (eachIs t xs ≡ true) × (eachIs t ys ≡ true)
+  all-split xs ys e = and-split (eachIs t xs) (eachIs t ys) (sym (all-append xs ys) ∙ e)
 
   -- Where it holds of a list, it holds of the first numbers and of those after them.
-  pub all-parts : (n : ℕ) (xs : List ℕ) → all t xs ≡ true → (all t (take n xs) ≡ true) × (all t (drop n xs) ≡ true)
-  all-parts n xs e = all-split (take n xs) (drop n xs) (ap (all t) (take-append-drop n xs) ∙ e)
+  pub all-parts : (n : ℕ) (xs : List ℕ) → eachIs t xs ≡ true → (eachIs t (take n xs) ≡ true) × (eachIs t (drop n xs) ≡ true)
+  all-parts n xs e = all-split (take n xs) (drop n xs) (ap (eachIs t) (take-append-drop n xs) ∙ e)
 
   -- It holds at every place, if it holds of the 0 that stands beyond the end.
-  pub all-at : (xs : List ℕ) (i : ℕ) → t 0 ≡ true → all t xs ≡ true → t (getD xs i 0) ≡ true
+  pub all-at : (xs : List ℕ) (i : ℕ) → t 0 ≡ true → eachIs t xs ≡ true → t (getD xs i 0) ≡ true
   all-at [] i z e = z
-  all-at (x ∷ xs) zero z e = and-split (t x) (all t xs) e .0
-  all-at (x ∷ xs) (suc i) z e = all-at xs i z (and-split (t x) (all t xs) e .1)
+  all-at (x ∷ xs) zero z e = and-split (t x) (eachIs t xs) e .0
+  all-at (x ∷ xs) (suc i) z e = all-at xs i z (and-split (t x) (eachIs t xs) e .1)
 
 -- The first of bytes is a byte, and those after it are bytes.
 pub bytes-cons : (b : ℕ) (bs : List ℕ) → allBytes (b ∷ bs) ≡ true → (b < byteValues) × (allBytes bs ≡ true)

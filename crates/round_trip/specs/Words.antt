@@ -10,13 +10,13 @@ use Rattle.lines.specs.Lines.{lineFeed, carriageReturn}
 use Rattle.forms.specs.Form.{rowSize}
 
 -- Whether a test holds of every number of a list: a word for the definitions below.
-abbrev pub all : (ℕ → Bool) → List ℕ → Bool
-all t [] = true
-all t (x ∷ xs) = t x && all t xs
+abbrev pub eachIs : (ℕ → Bool) → List ℕ → Bool
+eachIs t [] = true
+eachIs t (x ∷ xs) = t x && eachIs t xs
 
 -- Whether every number of a list is a byte (The part on our bench, the array).
 abbrev pub allBytes : List ℕ → Bool
-allBytes bs = all (λ b. ltb b byteValues) bs
+allBytes bs = eachIs (λ b. ltb b byteValues) bs
 
 -- An array of bytes, so many 16-byte rows of them (Image files, the writer).
 pub record Rows (n : ℕ) (array : List ℕ) : Type 0 where
@@ -25,11 +25,11 @@ pub record Rows (n : ℕ) (array : List ℕ) : Type 0 where
 
 -- No carriage return stands in a text (Image files, each with a line feed).
 abbrev pub noReturn : List ℕ → Bool
-noReturn text = all (λ c. not (eqb c carriageReturn)) text
+noReturn text = eachIs (λ c. not (eqb c carriageReturn)) text
 
 -- No line feed stands in a text (Image files, a line runs to).
 abbrev pub noFeed : List ℕ → Bool
-noFeed text = all (λ c. not (eqb c lineFeed)) text
+noFeed text = eachIs (λ c. not (eqb c lineFeed)) text
 
 -- A text's last character is a line feed (Image files, each with a line feed).
 abbrev pub endsInFeed : List ℕ → Bool

@@ -12,19 +12,19 @@ use Rattle.part.specs.declared.state.Control.{Control}
 use Rattle.control.specs.Register.{readsOf}
 use Rattle.sample.specs.Run.{Part}
 use Rattle.waves.specs.Waves.{Capture, brisk, wait, start, sent, pageWrite, readFrom}
-use Rattle.runs.specs.Bench.{blank, partAt, answersAt, AcceptedAt, opening, registerByte, lastAnswers, clockedBits}
+use Rattle.runs.specs.Bench.{blankPart, partAt, answersAt, AcceptedAt, opening, registerByte, lastAnswers, clockedBits}
 
 -- Such a part after captures, one after the other (State and time, each sample).
-abbrev pub partOf : ℕ → List Capture → Part
-partOf part cs = partAt (blank part 0) cs
+abbrev pub benchPart : ℕ → List Capture → Part
+benchPart part cs = partAt (blankPart part 0) cs
 
 -- Its answers, a byte for each sample (What goes in and what comes out).
 abbrev pub answers : ℕ → List Capture → List ℕ
-answers part cs = answersAt (blank part 0) cs
+answers part cs = answersAt (blankPart part 0) cs
 
 -- A replay takes them (Refusal numbers, 4 to 10).
 abbrev pub Accepted : ℕ → List Capture → Type 0
-Accepted part cs = AcceptedAt (blank part 0) cs
+Accepted part cs = AcceptedAt (blankPart part 0) cs
 
 -- Four samples of good VCC: the first, then 100,000 + 99,999, then 1 (State and time, 1 and 2).
 abbrev pub heldReset : List Capture
@@ -51,10 +51,10 @@ wrapped = (5 ∷ 6 ∷ 7 ∷ 8 ∷ 9 ∷ 10 ∷ 11 ∷ 12 ∷ []) ++ replicate 5
 -- They fill 60 to 63 and 0 to 7, and the counter is at 8; in the next page it is the same (Bench cases, P5).
 pub record P5 (part : ℕ) : Type 0 where
   pub taken : Accepted part (twelve 0x03C) × Accepted part (twelve 0x07C)
-  pub page : partOf part (twelve 0x03C) .array ≡ wrapped ++ replicate 4032 0xFF
-  pub counter : partOf part (twelve 0x03C) .state .device .counter ≡ at 8
-  pub next : partOf part (twelve 0x07C) .array ≡ replicate 64 0xFF ++ wrapped ++ replicate 3968 0xFF
-  pub steps : partOf part (twelve 0x07C) .state .device .counter ≡ at 0x048
+  pub page : benchPart part (twelve 0x03C) .array ≡ wrapped ++ replicate 4032 0xFF
+  pub counter : benchPart part (twelve 0x03C) .state .device .counter ≡ at 8
+  pub next : benchPart part (twelve 0x07C) .array ≡ replicate 64 0xFF ++ wrapped ++ replicate 3968 0xFF
+  pub steps : benchPart part (twelve 0x07C) .state .device .counter ≡ at 0x048
 
 -- A start and a slave byte (Bytes on the wire, after a start).
 abbrev pub calls : ℕ → List Capture
@@ -82,9 +82,9 @@ readsRegister = wait 5000 ∷ brisk (readFrom 0 0xFFFF 1) ∷ []
 
 -- 02h, 06h, 63h gives WD 11 and BP 100; the register then reads 63h, on the bus too (Bench cases, P7).
 pub record P7 (part : ℕ) : Type 0 where
-  pub watchdog : watchCode (partOf part (three 0x02 0x06 0x63) .state .device .control .stored) ≡ 3
-  pub block : blockCode (partOf part (three 0x02 0x06 0x63) .state .device .control .stored) ≡ 4
-  pub reads : readsOf (partOf part (three 0x02 0x06 0x63) .state .device .control) ≡ 0x63
+  pub watchdog : watchCode (benchPart part (three 0x02 0x06 0x63) .state .device .control .stored) ≡ 3
+  pub block : blockCode (benchPart part (three 0x02 0x06 0x63) .state .device .control .stored) ≡ 4
+  pub reads : readsOf (benchPart part (three 0x02 0x06 0x63) .state .device .control) ≡ 0x63
   pub taken : Accepted part (three 0x02 0x06 0x63 ++ readsRegister)
   pub bus : clockedBits (lastAnswers 30 (answers part (three 0x02 0x06 0x63 ++ readsRegister)))
       ≡ 0 ∷ 1 ∷ 1 ∷ 0 ∷ 0 ∷ 0 ∷ 1 ∷ 1 ∷ 1 ∷ 1 ∷ []
@@ -96,10 +96,10 @@ latched = record { stored = 0; wel = true; rwel = true; chosen = false; pending 
 -- 67h as third byte changes nothing: as after 02h and 06h, RWEL stays, and no write time runs (Bench cases, P8).
 pub record P8 (part : ℕ) : Type 0 where
   pub taken : Accepted part (three 0x02 0x06 0x67)
-  pub before : partOf part (opening ++ brisk (registerByte 0x02) ∷ brisk (registerByte 0x06) ∷ []) .state .device .control ≡ latched
-  pub same : partOf part (three 0x02 0x06 0x67) .state .device .control ≡ latched
-  pub time : partOf part (three 0x02 0x06 0x67) .state .timers .write ≡ 0
-  pub array : partOf part (three 0x02 0x06 0x67) .array ≡ replicate 4096 0xFF
+  pub before : benchPart part (opening ++ brisk (registerByte 0x02) ∷ brisk (registerByte 0x06) ∷ []) .state .device .control ≡ latched
+  pub same : benchPart part (three 0x02 0x06 0x67) .state .device .control ≡ latched
+  pub time : benchPart part (three 0x02 0x06 0x67) .state .timers .write ≡ 0
+  pub array : benchPart part (three 0x02 0x06 0x67) .array ≡ replicate 4096 0xFF
 
 -- A byte written, then 4,999 and 1 more (Bytes on the wire, stop).
 abbrev pub written5000 : List Capture

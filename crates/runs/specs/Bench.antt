@@ -4,22 +4,22 @@
 use Prim.Native.Nat.{ℕ, _-_, _%_}
 use mathlib.Core.List.{List, [], _∷_}
 use lib.ListN.{length, drop, replicate}
-use Rattle.power.specs.Power.{poweredUp}
+use Rattle.power.specs.Power.{atPower}
 use Rattle.sample.specs.Run.{Part}
 use Rattle.waves.specs.Waves.{Capture, joined, wait, pageWrite}
-use Rattle.runs.specs.Runs.{partAfter, answersTo, Taken}
+use Rattle.runs.specs.Runs.{afterCapture, answersTo, Taken}
 
 -- A part at power-up, with select 0, a stored byte and an array (State and time, power-up).
 abbrev pub holding : ℕ → ℕ → List ℕ → Part
-holding part stored array = record { state = poweredUp part 0 stored; array = array }
+holding part stored array = atPower part 0 stored array
 
 -- The same with an array of 4,096 bytes all FFh (The part on our bench).
-abbrev pub blank : ℕ → ℕ → Part
-blank part stored = holding part stored (replicate 4096 0xFF)
+abbrev pub blankPart : ℕ → ℕ → Part
+blankPart part stored = holding part stored (replicate 4096 0xFF)
 
 -- A part after captures, one after the other (State and time, each sample).
 abbrev pub partAt : Part → List Capture → Part
-partAt p cs = partAfter (joined cs) p
+partAt p cs = afterCapture (joined cs) p
 
 -- Its answers, a byte for each sample (What goes in and what comes out).
 abbrev pub answersAt : Part → List Capture → List ℕ

@@ -9,8 +9,8 @@ use Rattle.sample.specs.Run.{Part, runOf, answersOf}
 use Rattle.waves.specs.Waves.{Capture}
 
 -- The part after a capture (State and time, each sample).
-abbrev pub partAfter : Capture → Part → Part
-partAfter c p = runOf (c .times) (c .levels) p
+abbrev pub afterCapture : Capture → Part → Part
+afterCapture c p = runOf (c .times) (c .levels) p
 
 -- Its answers, a byte for each sample (What goes in and what comes out).
 abbrev pub answersTo : Capture → Part → List ℕ

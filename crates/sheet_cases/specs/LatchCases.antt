@@ -7,7 +7,7 @@ use mathlib.Core.Path.{_≡_}
 use lib.ListN.{replicate}
 use Rattle.part.specs.declared.state.Control.{Control}
 use Rattle.waves.specs.Waves.{Capture, brisk, pageWrite, addressed, sent}
-use Rattle.runs.specs.Bench.{blank, partAt, answersAt, AcceptedAt, opening, registerByte, lastAnswers}
+use Rattle.runs.specs.Bench.{blankPart, partAt, answersAt, AcceptedAt, opening, registerByte, lastAnswers}
 
 -- The register with a stored byte and the latches WEL and RWEL, not chosen and nothing pending (Control register).
 abbrev pub holds : ℕ → Bool → Bool → Control
@@ -15,7 +15,7 @@ holds stored wel rwel = record { stored = stored; wel = wel; rwel = rwel; chosen
 
 -- The register of a part with a stored byte after captures.
 abbrev pub controlAt : ℕ → ℕ → List Capture → Control
-controlAt part stored cs = partAt (blank part stored) cs .state .device .control
+controlAt part stored cs = partAt (blankPart part stored) cs .state .device .control
 
 -- A low-VCC sample with both lines high, 1 microsecond on, then good VCC until reset ends (State and time, 2).
 abbrev pub dip : List Capture
@@ -26,8 +26,8 @@ abbrev pub byteTo000 : List Capture
 byteTo000 = brisk (pageWrite 0 0x000 (0x5A ∷ [])) ∷ []
 
 -- 02h, then that byte (Control register, RWEL low).
-abbrev pub latched : List Capture
-latched = opening ++ brisk (registerByte 0x02) ∷ byteTo000
+abbrev pub latchThenByte : List Capture
+latchThenByte = opening ++ brisk (registerByte 0x02) ∷ byteTo000
 
 -- The same with low VCC in between (State and time, 2).
 abbrev pub dipped : List Capture
@@ -40,11 +40,11 @@ bothDipped = opening ++ brisk (registerByte 0x02) ∷ brisk (registerByte 0x06) 
 -- Low VCC clears both latches: a data byte that would be acknowledged and stored after 02h is not after low VCC; `low` is the answer byte
 -- with SDA low, `high` with SDA high, `writing` while a write runs (State and time, 2; Bytes on the wire, array data).
 pub record S6 (part low high writing : ℕ) : Type 0 where
-  pub taken : AcceptedAt (blank part 0) latched × AcceptedAt (blank part 0) dipped × AcceptedAt (blank part 0) bothDipped
-  pub before : lastAnswers 7 (answersAt (blank part 0) latched) ≡ low ∷ low ∷ low ∷ high ∷ high ∷ high ∷ writing ∷ []
-  pub stored : partAt (blank part 0) latched .array ≡ 0x5A ∷ replicate 4095 0xFF
-  pub after : lastAnswers 7 (answersAt (blank part 0) dipped) ≡ high ∷ high ∷ high ∷ high ∷ high ∷ high ∷ high ∷ []
-  pub kept : partAt (blank part 0) dipped .array ≡ replicate 4096 0xFF
+  pub taken : AcceptedAt (blankPart part 0) latchThenByte × AcceptedAt (blankPart part 0) dipped × AcceptedAt (blankPart part 0) bothDipped
+  pub before : lastAnswers 7 (answersAt (blankPart part 0) latchThenByte) ≡ low ∷ low ∷ low ∷ high ∷ high ∷ high ∷ writing ∷ []
+  pub stored : partAt (blankPart part 0) latchThenByte .array ≡ 0x5A ∷ replicate 4095 0xFF
+  pub after : lastAnswers 7 (answersAt (blankPart part 0) dipped) ≡ high ∷ high ∷ high ∷ high ∷ high ∷ high ∷ high ∷ []
+  pub kept : partAt (blankPart part 0) dipped .array ≡ replicate 4096 0xFF
   pub both : controlAt part 0 bothDipped ≡ holds 0 false false
 
 -- Level bytes with WP high (What goes in and what comes out, level bit 2).
@@ -71,13 +71,13 @@ lowAtStop = thirdStep (wpHigh upToStop ++ 11 ∷ [])
 -- With WPEN (stored 80h) and WP both high the third step changes nothing and RWEL stays; with WP low, or with WPEN low (stored 00h), 63h is
 -- taken: its bits 2 and 1 are not stored, RWEL is cleared and the write time is 5,000 (Control register, RWEL high).
 pub record S7 (part : ℕ) : Type 0 where
-  pub taken : AcceptedAt (blank part 0x80) highAtStop × AcceptedAt (blank part 0x80) lowAtStop × AcceptedAt (blank part 0) highAtStop
+  pub taken : AcceptedAt (blankPart part 0x80) highAtStop × AcceptedAt (blankPart part 0x80) lowAtStop × AcceptedAt (blankPart part 0) highAtStop
   pub refuses : controlAt part 0x80 highAtStop ≡ holds 0x80 true true
-  pub noTime : partAt (blank part 0x80) highAtStop .state .timers .write ≡ 0
+  pub noTime : partAt (blankPart part 0x80) highAtStop .state .timers .write ≡ 0
   pub takes : controlAt part 0x80 lowAtStop ≡ holds 0x61 true false
-  pub time : partAt (blank part 0x80) lowAtStop .state .timers .write ≡ 5000
+  pub time : partAt (blankPart part 0x80) lowAtStop .state .timers .write ≡ 5000
   pub unguarded : controlAt part 0 highAtStop ≡ holds 0x61 true false
-  pub alike : partAt (blank part 0) highAtStop .state .timers .write ≡ 5000
+  pub alike : partAt (blankPart part 0) highAtStop .state .timers .write ≡ 5000
 
 -- 06h without 02h before it, and then 63h (Control register, RWEL low).
 abbrev pub sixAlone : List Capture
@@ -85,10 +85,10 @@ sixAlone = opening ++ brisk (registerByte 0x06) ∷ brisk (registerByte 0x63) �
 
 -- 06h sets RWEL only if WEL is set: without it nothing changes, and 63h is no third step (Control register, RWEL low).
 pub record S8 (part : ℕ) : Type 0 where
-  pub taken : AcceptedAt (blank part 0) sixAlone
+  pub taken : AcceptedAt (blankPart part 0) sixAlone
   pub six : controlAt part 0 (opening ++ brisk (registerByte 0x06) ∷ []) ≡ holds 0 false false
   pub third : controlAt part 0 sixAlone ≡ holds 0 false false
-  pub time : partAt (blank part 0) sixAlone .state .timers .write ≡ 0
+  pub time : partAt (blankPart part 0) sixAlone .state .timers .write ≡ 0
 
 -- 02h and 00h, then 5Ah to 000h (Control register, RWEL low).
 abbrev pub cleared : List Capture
@@ -100,9 +100,9 @@ notCleared = opening ++ brisk (registerByte 0x02) ∷ brisk (registerByte 0x06) 
 
 -- 00h clears WEL, so that a data byte after it is not acknowledged and not kept; with RWEL high it changes nothing (Control register).
 pub record S9 (part high : ℕ) : Type 0 where
-  pub taken : AcceptedAt (blank part 0) cleared × AcceptedAt (blank part 0) notCleared
+  pub taken : AcceptedAt (blankPart part 0) cleared × AcceptedAt (blankPart part 0) notCleared
   pub before : controlAt part 0 (opening ++ brisk (registerByte 0x02) ∷ []) ≡ holds 0 true false
   pub zero : controlAt part 0 (opening ++ brisk (registerByte 0x02) ∷ brisk (registerByte 0x00) ∷ []) ≡ holds 0 false false
-  pub answer : lastAnswers 7 (answersAt (blank part 0) cleared) ≡ high ∷ high ∷ high ∷ high ∷ high ∷ high ∷ high ∷ []
-  pub kept : partAt (blank part 0) cleared .array ≡ replicate 4096 0xFF
+  pub answer : lastAnswers 7 (answersAt (blankPart part 0) cleared) ≡ high ∷ high ∷ high ∷ high ∷ high ∷ high ∷ high ∷ []
+  pub kept : partAt (blankPart part 0) cleared .array ≡ replicate 4096 0xFF
   pub stays : controlAt part 0 notCleared ≡ holds 0 true true

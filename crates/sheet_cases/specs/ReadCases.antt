@@ -8,7 +8,7 @@ use lib.ListN.{replicate}
 use Rattle.page.specs.Page.{at}
 use Rattle.sample.specs.Run.{Part}
 use Rattle.waves.specs.Waves.{Capture, brisk, pageWrite, readFrom}
-use Rattle.runs.specs.Bench.{holding, blank, partAt, answersAt, AcceptedAt, opening, registerByte, lastAnswers, sdaBits, clockedBits}
+use Rattle.runs.specs.Bench.{holding, blankPart, partAt, answersAt, AcceptedAt, opening, registerByte, lastAnswers, sdaBits, clockedBits}
 
 -- 02h to the register, then 5Ah to an address (Bytes on the wire, write).
 abbrev pub written : ℕ → List Capture
@@ -24,14 +24,14 @@ lastWritten = replicate 4095 0xFF ++ 0x5A ∷ []
 
 -- 0FFFh is the array's last place, and so is 1FFFh by its low 12 bits; 02h sent there sets no latch (Bytes on the wire, write).
 pub record S1 (part : ℕ) : Type 0 where
-  pub taken : AcceptedAt (blank part 0) (written 0x0FFF) × AcceptedAt (blank part 0) (written 0x1FFF) × AcceptedAt (blank part 0) latchless
-  pub last : partAt (blank part 0) (written 0x0FFF) .array ≡ lastWritten
-  pub beyond : partAt (blank part 0) (written 0x1FFF) .array ≡ lastWritten
-  pub latch : partAt (blank part 0) latchless .state .device .control .wel ≡ false
+  pub taken : AcceptedAt (blankPart part 0) (written 0x0FFF) × AcceptedAt (blankPart part 0) (written 0x1FFF) × AcceptedAt (blankPart part 0) latchless
+  pub last : partAt (blankPart part 0) (written 0x0FFF) .array ≡ lastWritten
+  pub beyond : partAt (blankPart part 0) (written 0x1FFF) .array ≡ lastWritten
+  pub latch : partAt (blankPart part 0) latchless .state .device .control .wel ≡ false
 
 -- A part with 11h at 000h, A5h at 03Fh, 3Ch at 040h and 96h at FFFh, all else FFh (The part on our bench).
-abbrev pub marked : ℕ → Part
-marked part = holding part 0 ((0x11 ∷ replicate 62 0xFF) ++ (0xA5 ∷ 0x3C ∷ replicate 4030 0xFF) ++ 0x96 ∷ [])
+abbrev pub fourBytes : ℕ → Part
+fourBytes part = holding part 0 ((0x11 ∷ replicate 62 0xFF) ++ (0xA5 ∷ 0x3C ∷ replicate 4030 0xFF) ++ 0x96 ∷ [])
 
 -- Two bytes read from an address on (Bytes on the wire, read).
 abbrev pub twoFrom : ℕ → List Capture
@@ -53,13 +53,13 @@ pageEnd =
 -- A read from 03Fh goes on at 040h, in the next page. SDA at each sample from the ninth fall of the slave byte on; after the high ninth
 -- bit the part is silent: SDA is high at that fall and at the three samples of the stop (Bytes on the wire, read).
 pub record S2 (part : ℕ) : Type 0 where
-  pub taken : AcceptedAt (marked part) (twoFrom 0x03F)
-  pub line : sdaBits (lastAnswers 58 (answersAt (marked part) (twoFrom 0x03F))) ≡ pageEnd ++ 1 ∷ 1 ∷ 1 ∷ 1 ∷ []
-  pub counter : partAt (marked part) (twoFrom 0x03F) .state .device .counter ≡ at 0x041
+  pub taken : AcceptedAt (fourBytes part) (twoFrom 0x03F)
+  pub line : sdaBits (lastAnswers 58 (answersAt (fourBytes part) (twoFrom 0x03F))) ≡ pageEnd ++ 1 ∷ 1 ∷ 1 ∷ 1 ∷ []
+  pub counter : partAt (fourBytes part) (twoFrom 0x03F) .state .device .counter ≡ at 0x041
 
 -- A read from FFFh goes on at 000h: 96h, the host's acknowledge, 11h, none, and the stop's clock (Bytes on the wire, read: 4095 to 0).
 pub record S3 (part : ℕ) : Type 0 where
-  pub taken : AcceptedAt (marked part) (twoFrom 0xFFF)
-  pub line : clockedBits (lastAnswers 57 (answersAt (marked part) (twoFrom 0xFFF)))
+  pub taken : AcceptedAt (fourBytes part) (twoFrom 0xFFF)
+  pub line : clockedBits (lastAnswers 57 (answersAt (fourBytes part) (twoFrom 0xFFF)))
       ≡ 1 ∷ 0 ∷ 0 ∷ 1 ∷ 0 ∷ 1 ∷ 1 ∷ 0 ∷ 1 ∷ 0 ∷ 0 ∷ 0 ∷ 1 ∷ 0 ∷ 0 ∷ 0 ∷ 1 ∷ 1 ∷ 1 ∷ []
-  pub counter : partAt (marked part) (twoFrom 0xFFF) .state .device .counter ≡ at 0x001
+  pub counter : partAt (fourBytes part) (twoFrom 0xFFF) .state .device .counter ≡ at 0x001

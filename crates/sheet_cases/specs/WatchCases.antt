@@ -7,7 +7,7 @@ use mathlib.Core.Path.{_≡_}
 use lib.ListN.{replicate}
 use Rattle.part.specs.declared.state.Watchdog.{Watchdog}
 use Rattle.waves.specs.Waves.{Capture, wait}
-use Rattle.runs.specs.Bench.{blank, partAt, answersAt, AcceptedAt, opening}
+use Rattle.runs.specs.Bench.{blankPart, partAt, answersAt, AcceptedAt, opening}
 
 -- A start so many microseconds after the sample before: SCL stays high, SDA falls (State and time, 4).
 abbrev pub startAfter : ℕ → Capture
@@ -15,11 +15,11 @@ startAfter e = record { times = e ∷ []; levels = 9 ∷ [] }
 
 -- The watchdog of a part with a stored byte after captures (State and time, every start).
 abbrev pub watchdogAt : ℕ → ℕ → List Capture → Watchdog
-watchdogAt part stored cs = partAt (blank part stored) cs .state .timers .watchdog
+watchdogAt part stored cs = partAt (blankPart part stored) cs .state .timers .watchdog
 
 -- What a stored byte loads at the end of reset, and again at a start 7 microseconds later (State and time, 1 and every start).
 pub record Loads (part stored : ℕ) (running : Bool) (left : ℕ) : Type 0 where
-  pub taken : AcceptedAt (blank part stored) (opening ++ startAfter 7 ∷ [])
+  pub taken : AcceptedAt (blankPart part stored) (opening ++ startAfter 7 ∷ [])
   pub ends : watchdogAt part stored opening ≡ record { running = running; left = left }
   pub starts : watchdogAt part stored (opening ++ startAfter 7 ∷ []) ≡ record { running = running; left = left }
 
@@ -54,11 +54,11 @@ neverOut = opening ++ replicate 16 (wait 100000)
 -- A watchdog that runs out begins reset: with WD 00 after 1,400,000, with 01 after 600,000, with 10 after 200,000, never with 11, and not
 -- one microsecond before; `on` is the answer byte with reset active, `idle` without (State and time, 1).
 pub record S5 (part on idle : ℕ) : Type 0 where
-  pub taken : AcceptedAt (blank part 0x00) (runOut 13) × AcceptedAt (blank part 0x20) (runOut 5)
-  pub accepted : AcceptedAt (blank part 0x40) heldAgain × AcceptedAt (blank part 0x40) putOff × AcceptedAt (blank part 0x60) neverOut
-  pub long : answersAt (blank part 0x00) (runOut 13) ≡ bitten 13 on idle
-  pub middle : answersAt (blank part 0x20) (runOut 5) ≡ bitten 5 on idle
-  pub short : answersAt (blank part 0x40) heldAgain
+  pub taken : AcceptedAt (blankPart part 0x00) (runOut 13) × AcceptedAt (blankPart part 0x20) (runOut 5)
+  pub accepted : AcceptedAt (blankPart part 0x40) heldAgain × AcceptedAt (blankPart part 0x40) putOff × AcceptedAt (blankPart part 0x60) neverOut
+  pub long : answersAt (blankPart part 0x00) (runOut 13) ≡ bitten 13 on idle
+  pub middle : answersAt (blankPart part 0x20) (runOut 5) ≡ bitten 5 on idle
+  pub short : answersAt (blankPart part 0x40) heldAgain
       ≡ on ∷ on ∷ idle ∷ idle ∷ idle ∷ on ∷ on ∷ on ∷ idle ∷ idle ∷ idle ∷ on ∷ []
-  pub off : answersAt (blank part 0x60) neverOut ≡ on ∷ on ∷ replicate 17 idle
-  pub anew : answersAt (blank part 0x40) putOff ≡ on ∷ on ∷ idle ∷ idle ∷ idle ∷ idle ∷ idle ∷ on ∷ []
+  pub off : answersAt (blankPart part 0x60) neverOut ≡ on ∷ on ∷ replicate 17 idle
+  pub anew : answersAt (blankPart part 0x40) putOff ≡ on ∷ on ∷ idle ∷ idle ∷ idle ∷ idle ∷ idle ∷ on ∷ []

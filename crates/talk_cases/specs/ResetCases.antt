@@ -6,15 +6,15 @@ use mathlib.Core.List.{List, [], _∷_, _++_}
 use mathlib.Core.Path.{_≡_}
 use lib.ListN.{replicate}
 use Rattle.waves.specs.Waves.{Capture, brisk, wait, start, again, stop, sent, addressed, pageWrite, currentRead}
-use Rattle.runs.specs.Bench.{holding, blank, partAt, answersAt, AcceptedAt, opening, registerByte, lastAnswers, clockedBits}
+use Rattle.runs.specs.Bench.{holding, blankPart, partAt, answersAt, AcceptedAt, opening, registerByte, lastAnswers, clockedBits}
 
 -- A low-VCC sample with both lines high, so many microseconds after the sample before (State and time, 2).
 abbrev pub lowAfter : ℕ → Capture
 lowAfter e = record { times = e ∷ []; levels = 3 ∷ [] }
 
 -- Low VCC for 100,000 after the end of reset, then good VCC: its first sample, 100,000 + 99,999, and 1 more (State and time, 1 and 2).
-abbrev pub dropped : List Capture
-dropped = opening ++ lowAfter 1 ∷ lowAfter 100000 ∷ wait 100000 ∷ wait 100000 ∷ wait 99999 ∷ wait 1 ∷ []
+abbrev pub lowVcc : List Capture
+lowVcc = opening ++ lowAfter 1 ∷ lowAfter 100000 ∷ wait 100000 ∷ wait 100000 ∷ wait 99999 ∷ wait 1 ∷ []
 
 -- Low VCC in the middle of the hold, then the same (State and time, 1 and 2).
 abbrev pub cutShort : List Capture
@@ -23,9 +23,9 @@ cutShort = wait 0 ∷ wait 100000 ∷ lowAfter 1 ∷ wait 0 ∷ wait 100000 ∷ 
 -- Low VCC makes reset active with the whole hold of 200,000, whatever was left of it; `on` is the answer byte with reset active, `idle`
 -- without (State and time, 2).
 pub record S15 (part on idle : ℕ) : Type 0 where
-  pub taken : AcceptedAt (blank part 0) dropped × AcceptedAt (blank part 0) cutShort
-  pub anew : answersAt (blank part 0) dropped ≡ on ∷ on ∷ idle ∷ on ∷ on ∷ on ∷ on ∷ on ∷ idle ∷ []
-  pub whole : answersAt (blank part 0) cutShort ≡ on ∷ on ∷ on ∷ on ∷ on ∷ on ∷ idle ∷ []
+  pub taken : AcceptedAt (blankPart part 0) lowVcc × AcceptedAt (blankPart part 0) cutShort
+  pub anew : answersAt (blankPart part 0) lowVcc ≡ on ∷ on ∷ idle ∷ on ∷ on ∷ on ∷ on ∷ on ∷ idle ∷ []
+  pub whole : answersAt (blankPart part 0) cutShort ≡ on ∷ on ∷ on ∷ on ∷ on ∷ on ∷ idle ∷ []
 
 -- 02h, then 5Ah to 000h (Bytes on the wire, stop).
 abbrev pub stored000 : List Capture
@@ -38,9 +38,9 @@ goesOn = stored000 ++ lowAfter 1 ∷ wait 4998 ∷ wait 1 ∷ []
 -- A write under way goes on while reset is active: it ends at 5,000. `writing` is the answer byte after the stop, `both` while reset is active
 -- too, `on` with reset active alone (State and time, 3).
 pub record S16 (part writing both on : ℕ) : Type 0 where
-  pub taken : AcceptedAt (blank part 0) goesOn
-  pub last : lastAnswers 4 (answersAt (blank part 0) goesOn) ≡ writing ∷ both ∷ both ∷ on ∷ []
-  pub array : partAt (blank part 0) goesOn .array ≡ 0x5A ∷ replicate 4095 0xFF
+  pub taken : AcceptedAt (blankPart part 0) goesOn
+  pub last : lastAnswers 4 (answersAt (blankPart part 0) goesOn) ≡ writing ∷ both ∷ both ∷ on ∷ []
+  pub array : partAt (blankPart part 0) goesOn .array ≡ 0x5A ∷ replicate 4095 0xFF
 
 -- A start and A0h while writing (State and time, a start while writing).
 abbrev pub whileWriting : List Capture
@@ -57,14 +57,14 @@ anotherStart = afterWriting ++ brisk (again ++ sent 0xA0) ∷ []
 -- After a start while writing the part hears nothing, also when the write is over, until another start: the answers from the eighth fall of
 -- A0h to its ninth (State and time, a start while writing).
 pub record S17 : Type 0 where
-  pub taken : AcceptedAt (blank 4323 0) anotherStart
-  pub deaf : lastAnswers 4 (answersAt (blank 4323 0) whileWriting) ≡ 7 ∷ 7 ∷ 7 ∷ 7 ∷ []
-  pub still : lastAnswers 4 (answersAt (blank 4323 0) afterWriting) ≡ 3 ∷ 3 ∷ 3 ∷ 3 ∷ []
-  pub hears : lastAnswers 4 (answersAt (blank 4323 0) anotherStart) ≡ 2 ∷ 2 ∷ 2 ∷ 3 ∷ []
+  pub taken : AcceptedAt (blankPart 4323 0) anotherStart
+  pub deaf : lastAnswers 4 (answersAt (blankPart 4323 0) whileWriting) ≡ 7 ∷ 7 ∷ 7 ∷ 7 ∷ []
+  pub still : lastAnswers 4 (answersAt (blankPart 4323 0) afterWriting) ≡ 3 ∷ 3 ∷ 3 ∷ 3 ∷ []
+  pub hears : lastAnswers 4 (answersAt (blankPart 4323 0) anotherStart) ≡ 2 ∷ 2 ∷ 2 ∷ 3 ∷ []
 
 -- 400,000 microseconds: the watchdog of 200,000 runs out, and its reset ends (State and time, 1).
-abbrev pub bitten : List Capture
-bitten = replicate 4 (wait 100000)
+abbrev pub bites : List Capture
+bites = replicate 4 (wait 100000)
 
 -- 02h, a data byte 5Ah to 000h with no stop, the watchdog's reset, then the clocks of 77h and a stop (State and time, 3).
 abbrev pub cutOff : List Capture
@@ -72,18 +72,18 @@ cutOff =
     opening
     ++ brisk (registerByte 0x02)
     ∷ brisk (addressed 0 0x000 ++ sent 0x5A)
-    ∷ (bitten ++ brisk (sent 0x77 ++ stop) ∷ [])
+    ∷ (bites ++ brisk (sent 0x77 ++ stop) ∷ [])
 
 -- The address FFFFh, the watchdog's reset, and a read of one byte from the counter (State and time, 3).
 abbrev pub chosenOff : List Capture
-chosenOff = opening ++ brisk (addressed 0 0xFFFF) ∷ (bitten ++ brisk (currentRead 0 1) ∷ [])
+chosenOff = opening ++ brisk (addressed 0 0xFFFF) ∷ (bites ++ brisk (currentRead 0 1) ∷ [])
 
--- Reset ends talk: the load is dropped, 77h is not acknowledged, and the array stays; a watchdog's reset leaves WEL. The register choice
--- is dropped: the byte read is A5h of 000h (State and time, 3).
+-- Reset ends talk: the load is lowVcc, 77h is not acknowledged, and the array stays; a watchdog's reset leaves WEL. The register choice
+-- is lowVcc: the byte read is A5h of 000h (State and time, 3).
 pub record S18 : Type 0 where
-  pub taken : AcceptedAt (blank 4323 0x40) cutOff × AcceptedAt (holding 4323 0x40 (0xA5 ∷ replicate 4095 0xFF)) chosenOff
-  pub answer : lastAnswers 7 (answersAt (blank 4323 0x40) cutOff) ≡ 3 ∷ 3 ∷ 3 ∷ 3 ∷ 3 ∷ 3 ∷ 3 ∷ []
-  pub array : partAt (blank 4323 0x40) cutOff .array ≡ replicate 4096 0xFF
-  pub latch : partAt (blank 4323 0x40) cutOff .state .device .control .wel ≡ true
+  pub taken : AcceptedAt (blankPart 4323 0x40) cutOff × AcceptedAt (holding 4323 0x40 (0xA5 ∷ replicate 4095 0xFF)) chosenOff
+  pub answer : lastAnswers 7 (answersAt (blankPart 4323 0x40) cutOff) ≡ 3 ∷ 3 ∷ 3 ∷ 3 ∷ 3 ∷ 3 ∷ 3 ∷ []
+  pub array : partAt (blankPart 4323 0x40) cutOff .array ≡ replicate 4096 0xFF
+  pub latch : partAt (blankPart 4323 0x40) cutOff .state .device .control .wel ≡ true
   pub choice : clockedBits (lastAnswers 30 (answersAt (holding 4323 0x40 (0xA5 ∷ replicate 4095 0xFF)) chosenOff))
       ≡ 1 ∷ 0 ∷ 1 ∷ 0 ∷ 0 ∷ 1 ∷ 0 ∷ 1 ∷ 1 ∷ 1 ∷ []

@@ -26,18 +26,18 @@ answerBy true = 1
 answerBy false = 0
 
 -- A lent row at the end: as the operation leaves it, or as it was where nothing was done (Leaving no slack).
-abbrev pub leftBy : Bool → List ℕ → List ℕ → List ℕ
-leftBy true after before = after
-leftBy false after before = before
+abbrev pub leftOr : Bool → List ℕ → List ℕ → List ℕ
+leftOr true after before = after
+leftOr false after before = before
 
 -- Reading an image: the array that the text gives; refused, as it was (Refusal numbers, 5, 11 to 18; Image files).
 pub record ReadsThrough (size : ℕ) (text array numbers : List ℕ) (r : ℕ) (array′ numbers′ : List ℕ) : Type 0 where
   pub answer : r ≡ answerBy (fits numbers)
-  pub reply : numbers′ ≡ leftBy (fits numbers) (told (verdictOf (imageOf intel size text array) (length text))) numbers
-  pub kept : array′ ≡ leftBy (fits numbers) (arrayAfter (imageOf intel size text array) array) array
+  pub reply : numbers′ ≡ leftOr (fits numbers) (told (verdictOf (imageOf intel size text array) (length text))) numbers
+  pub kept : array′ ≡ leftOr (fits numbers) (arrayAfter (imageOf intel size text array) array) array
 
 -- Writing an image: the buffer with the fixed form at its start; refused, as it was (Refusal numbers, 5, 19; Image files).
 pub record WritesThrough (size : ℕ) (array out numbers : List ℕ) (r : ℕ) (out′ numbers′ : List ℕ) : Type 0 where
   pub answer : r ≡ answerBy (fits numbers)
-  pub reply : numbers′ ≡ leftBy (fits numbers) (told (writeVerdict intel size array out)) numbers
-  pub said : out′ ≡ leftBy (fits numbers) (outAfter intel (writeVerdict intel size array out) array out) out
+  pub reply : numbers′ ≡ leftOr (fits numbers) (told (writeVerdict intel size array out)) numbers
+  pub said : out′ ≡ leftOr (fits numbers) (outAfter intel (writeVerdict intel size array out) array out) out

@@ -15,7 +15,7 @@ use Rattle.trials.specs.declared.tries.Tried.{Tried}
 use Rattle.form.specs.Words.{bytesOf}
 use Rattle.form.specs.Fields.{putInOf}
 use Rattle.trials.specs.Rounds.{Round, roundOf, timesOf}
-use Rattle.trials.specs.Trial.{blank, upOf, firstOf, triedOf, Tries}
+use Rattle.trials.specs.Trial.{blank, upOf, presetState, triedOf, Tries}
 use Rattle.replies.specs.Reply.{openingOf, Closes}
 use Rattle.trials.specs.Case.{Answers}
 
@@ -35,10 +35,10 @@ module _ (h : Header) (part select stored : ℕ) (up : Replayed)
       → up .reply ≡ Accepted n → first ≡ putInOf (h .preset) (up .state) → clear ≡ replicate (length row) blank
       → roundOf last array′ row′ ≡ timesOf (h .times) first es ls array clear
       → Tries h es ls array row (record { ran = true; last = last }) array′ row′
-  unfolding meant firstOf triedOf
+  unfolding meant presetState triedOf
   tries-accepted n first es ls array row clear array′ row′ last told put wiped ran =
       let v : upOf h ≡ accepted n = up-verdict (accepted n) (rw told) in
-      let at : first ≡ firstOf h = put ∙ ap (λ (t : State). putInOf (h .preset) t) (up-state (accepted n) (rw told) ∙ rw (p, s, b)) in
+      let at : first ≡ presetState h = put ∙ ap (λ (t : State). putInOf (h .preset) t) (up-state (accepted n) (rw told) ∙ rw (p, s, b)) in
       record { ran = rw v; last = rw v (ran ∙ rw (at, wiped)) }
 
   -- A refused power-up leaves the rows as they are.

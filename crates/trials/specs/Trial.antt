@@ -22,8 +22,8 @@ unfoldable pub upOf : Header → Verdict
 upOf h = powerOf (min (h .part) 65535) (min (h .select) 255) (min (h .stored) 255)
 
 -- The state at power-up, with the header's words put in.
-unfoldable pub firstOf : Header → State
-firstOf h = putInOf (h .preset) (poweredUp (min (h .part) 65535) (min (h .select) 255) (min (h .stored) 255))
+unfoldable pub presetState : Header → State
+presetState h = putInOf (h .preset) (poweredUp (min (h .part) 65535) (min (h .select) 255) (min (h .stored) 255))
 
 -- Whether anything is replayed: where power-up was accepted.
 abbrev pub ranBy : Verdict → Bool
@@ -32,7 +32,7 @@ ranBy (refused k p) = false
 
 -- What a case leaves: a refused power-up leaves the rows alone, else they are replayed over a blank answer row.
 abbrev pub triedBy : Verdict → Header → List ℕ → List ℕ → List ℕ → List ℕ → Round
-triedBy (accepted n) h es ls array row = timesOf (h .times) (firstOf h) es ls array (replicate (length row) blank)
+triedBy (accepted n) h es ls array row = timesOf (h .times) (presetState h) es ls array (replicate (length row) blank)
 triedBy (refused k p) h es ls array row = record { verdict = refused k p; part = record { state = poweredUp 4323 0 0; array = array }; row = row }
 
 -- What a case leaves.
