@@ -3,7 +3,8 @@
 -- page load of 64 bytes and 64 marks, as the type of the state has it, and two arrays of one length that are equal but for one address. The
 -- arrays may have any length, the state may be any, and so may the samples, also such as a replay would refuse.
 -- For a person from the line: take two chips in the same condition that differ in one byte of memory, and send both the same traffic. You
--- cannot tell them apart until one of them is asked for that byte, and then only at a bit in which the two bytes differ.
+-- cannot tell them apart until one of them is asked for that byte, and the first difference is at a bit in which the two bytes differ; of
+-- what follows it nothing is said.
 use Prim.Native.Nat.{ℕ}
 use mathlib.Core.Bool.{true}
 use mathlib.Core.List.{List}

@@ -1,6 +1,6 @@
 -- What is claimed of the states that a part comes to, and of captures that are cut (document 01, State and time; Refusal numbers, 4 and 5).
 -- For a person from the line: whatever you do to a chip after switching it on, it stays in a condition that the sheet describes, and a
--- replay that went through once can always be followed by another. A long capture may be played in pieces.
+-- replay that went through once is never followed by refusal 4 or 5. A capture of at most 65,536 samples may be played in pieces.
 use Prim.Native.Nat.{ℕ, _+_}
 use mathlib.Core.List.{List}
 use mathlib.Core.Path.{_≡_}

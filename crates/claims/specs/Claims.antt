@@ -1,5 +1,6 @@
 -- All that is claimed of the chip and of its images, in one record: `claims` of proofs/Claims has this type and no argument. Each field is a
 -- claim that is closed: what it speaks of and what it asks stands in its own record, in words at its head, and nothing is asked elsewhere.
+-- They speak of outcomes that keep the operations' promises; that the code keeps these, the contracts of the operations say.
 -- For a person from the line: this is the whole list of what you may rely on; each line names a page that says it in full.
 use Rattle.demand2.specs.Demand2.{Demand2}
 use Rattle.demand3_runs.specs.Occurs.{Occurs}

@@ -6,7 +6,7 @@
 -- for the whole, and there is only one such (OneReply). And an accepted capture can be cut anywhere: its first piece is
 -- accepted, and so is its second, from the state and the array that the first leaves.
 -- For a person from the line: what it answers to a recording is what the rules give, one sample after the other, and there is an answer for every
--- sample. You may play the recording in pieces.
+-- sample. You may play a recording of at most 65,536 samples in pieces.
 use Prim.Native.Nat.{ℕ, _+_, _<_, _≤_}
 use mathlib.Core.List.{List, _++_}
 use mathlib.Core.Path.{_≡_}

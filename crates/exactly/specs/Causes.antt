@@ -1,3 +1,4 @@
+-- For a person from the line: nothing is turned away that the table of refusals lets through.
 -- No refusal without cause: where an outcome that keeps an operation's contract says a refusal, the table has it. What an operation does
 -- where the table has a refusal, Demand1 says (document 01, Refusal numbers, given exactly when; Leaving no slack, refuses everything).
 use Prim.Native.Nat.{ℕ}

@@ -42,8 +42,8 @@ pub record Lengths : Type 0 where
   pub most : (array : List ℕ) → length (imageText intel array) ≤ mostLength intel (length array)
   pub small : mostLength intel smallSize ≡ 11276
 
--- Written and read back, by the promises of the two operations alone: where a write of bytes is accepted with a length, a read of so much of the
--- buffer leaves the same array, whatever stood there, and answers that length (demand 2; Image files).
+-- Written and read back, by the promises of the two operations alone, at any size of whole rows: where a write of bytes is accepted with a
+-- length, a read of so much of the buffer leaves the same array, whatever stood there, and answers that length (demand 2; Image files).
 pub record WriteThenRead : Type 0 where
   pub back : (k : ℕ) (array out out′ old array′ : List ℕ) (r r₂ : Reply) (n : ℕ) → allBytes array ≡ true
       → WritesImage intel (k * rowSize) array out r out′ → meant r ≡ accepted n
