@@ -46,9 +46,9 @@ pub record S16 (part writing both on : ℕ) : Type 0 where
 abbrev pub whileWriting : List Capture
 whileWriting = stored000 ++ brisk (start ++ sent 0xA0) ∷ []
 
--- Then 5,000 and A0h with no start (State and time, a start while writing).
+-- Then 5,000 with SCL low, in which no bit is taken, and A0h with no start (State and time, a start while writing).
 abbrev pub afterWriting : List Capture
-afterWriting = whileWriting ++ wait 5000 ∷ brisk (sent 0xA0) ∷ []
+afterWriting = whileWriting ++ record { times = 5000 ∷ []; levels = 10 ∷ [] } ∷ brisk (sent 0xA0) ∷ []
 
 -- Then another start and A0h (State and time, a start while writing).
 abbrev pub anotherStart : List Capture
