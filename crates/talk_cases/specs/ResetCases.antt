@@ -78,8 +78,8 @@ cutOff =
 abbrev pub chosenOff : List Capture
 chosenOff = opening ++ brisk (addressed 0 0xFFFF) ∷ (bites ++ brisk (currentRead 0 1) ∷ [])
 
--- Reset ends talk: the load is lowVcc, 77h is not acknowledged, and the array stays; a watchdog's reset leaves WEL. The register choice
--- is lowVcc: the byte read is A5h of 000h (State and time, 3).
+-- Reset ends talk: the load is dropped, 77h is not acknowledged, and the array stays; a watchdog's reset leaves WEL. The register choice
+-- is dropped: the byte read is A5h of 000h (State and time, 3).
 pub record S18 : Type 0 where
   pub taken : AcceptedAt (blankPart 4323 0x40) cutOff × AcceptedAt (holding 4323 0x40 (0xA5 ∷ replicate 4095 0xFF)) chosenOff
   pub answer : lastAnswers 7 (answersAt (blankPart 4323 0x40) cutOff) ≡ 3 ∷ 3 ∷ 3 ∷ 3 ∷ 3 ∷ 3 ∷ 3 ∷ []
