@@ -27,7 +27,7 @@ extentTable k =
 unfoldable pub extentOf : Kind → ℕ → Extent
 extentOf k code = getD (extentTable k) code (firstPages 0)
 
--- Whether a page lies inExtent an extent (Control register).
+-- Whether a page lies within an extent (Control register).
 abbrev pub inExtent : Extent → ℕ → Bool
 inExtent x page = leb (x .from) page && ltb page (x .to)
 

@@ -46,4 +46,4 @@ s22 = record { once = refl; stays = record { taken = refl; line = refl }; droppe
 -- S23: what is acknowledged.
 pub s23 : S23
 unfolding opened
-s23 = record { taken = refl; array = refl; register = refl; withheld = refl; silent = refl }
+s23 = record { taken = refl; accepted = (refl, refl); unstopped = refl; array = refl; register = refl; withheld = refl; silent = refl }

@@ -46,9 +46,9 @@ pub record S16 (part writing both on : ℕ) : Type 0 where
 abbrev pub whileWriting : List Capture
 whileWriting = stored000 ++ brisk (start ++ sent 0xA0) ∷ []
 
--- Then 5,000 and A0h with no start (State and time, a start while writing).
+-- Then 5,000 with SCL low, in which no bit is taken, and A0h with no start (State and time, a start while writing).
 abbrev pub afterWriting : List Capture
-afterWriting = whileWriting ++ wait 5000 ∷ brisk (sent 0xA0) ∷ []
+afterWriting = whileWriting ++ record { times = 5000 ∷ []; levels = 10 ∷ [] } ∷ brisk (sent 0xA0) ∷ []
 
 -- Then another start and A0h (State and time, a start while writing).
 abbrev pub anotherStart : List Capture
@@ -78,8 +78,8 @@ cutOff =
 abbrev pub chosenOff : List Capture
 chosenOff = opening ++ brisk (addressed 0 0xFFFF) ∷ (bites ++ brisk (currentRead 0 1) ∷ [])
 
--- Reset ends talk: the load is lowVcc, 77h is not acknowledged, and the array stays; a watchdog's reset leaves WEL. The register choice
--- is lowVcc: the byte read is A5h of 000h (State and time, 3).
+-- Reset ends talk: the load is dropped, 77h is not acknowledged, and the array stays; a watchdog's reset leaves WEL. The register choice
+-- is dropped: the byte read is A5h of 000h (State and time, 3).
 pub record S18 : Type 0 where
   pub taken : AcceptedAt (blankPart 4323 0x40) cutOff × AcceptedAt (holding 4323 0x40 (0xA5 ∷ replicate 4095 0xFF)) chosenOff
   pub answer : lastAnswers 7 (answersAt (blankPart 4323 0x40) cutOff) ≡ 3 ∷ 3 ∷ 3 ∷ 3 ∷ 3 ∷ 3 ∷ 3 ∷ []

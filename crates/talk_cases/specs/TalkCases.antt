@@ -10,7 +10,7 @@ use Rattle.sample.specs.Run.{Part}
 use Rattle.waves.specs.Waves.{Capture, brisk, start, again, stop, clocks, sent, read, addressed, pageWrite, readFrom, currentRead}
 use Rattle.runs.specs.Bench.{holding, blankPart, partAt, answersAt, AcceptedAt, opening, registerByte, lastAnswers, clockedBits}
 
--- A part with stored byte 00h and an array all FFh after level bytes, once reset has ended.
+-- Captures: level bytes, once reset has ended (State and time, power-up and 1).
 abbrev pub talked : List ℕ → List Capture
 talked levels = opening ++ brisk levels ∷ []
 
@@ -120,6 +120,8 @@ acked = 1 ∷ 1 ∷ 1 ∷ 1 ∷ 1 ∷ 1 ∷ 1 ∷ 1 ∷ 0 ∷ []
 -- clock. With WEL low a data byte is not, and the part is silent (Bytes on the wire).
 pub record S23 : Type 0 where
   pub taken : AcceptedAt (blankPart 4323 0) (opening ++ brisk (registerByte 0x02) ∷ brisk (pageWrite 0 0x123 (0x5A ∷ [])) ∷ [])
+  pub accepted : AcceptedAt (blankPart 4323 0) (talked (registerByte 0x02)) × AcceptedAt (blankPart 4323 0) (talked (pageWrite 0 0x123 (0x5A ∷ [])))
+  pub unstopped : AcceptedAt (blankPart 4323 0) (talked (addressed 0 0x123 ++ sent 0x5A))
   pub array : clockedBits
       (lastAnswers 111
       (answersAt (blankPart 4323 0) (opening ++ brisk (registerByte 0x02) ∷ brisk (pageWrite 0 0x123 (0x5A ∷ [])) ∷ [])))

@@ -1,11 +1,11 @@
 -- Waveforms of what a host does on the bus: rows of level bytes, WP low and VCC good, for a part of any select; and captures, rows of levels
 -- with their times (document 01, What goes in and what comes out; State and time, 4; Bytes on the wire). Pairs in the comments are SCL and SDA.
+-- The paper's numbers are written out here, so that a case made of these tests those that the sheet names.
 use Prim.Native.Nat.{ℕ, zero, suc, _+_, _*_, _/_, _%_, _^_}
 use mathlib.Core.Bool.{Bool, true, false}
 use mathlib.Core.List.{List, [], _∷_, _++_}
 use lib.ListN.{length, take, drop, replicate}
 use Rattle.ground.specs.Cases.{orZero, odd}
-use Rattle.ground.specs.Numbers.{mostElapsed, mostBits, byteValues, slaveCode, registerAddress}
 
 -- The level byte of SCL and of SDA from outside, WP low and VCC good (What goes in and what comes out).
 abbrev pub levelOf : Bool → Bool → ℕ
@@ -34,7 +34,7 @@ clocks (suc n) v = clock (odd (v / 2 ^ n)) ++ clocks n v
 
 -- A byte out of the host; SDA is left high in the ninth clock, where the part may acknowledge (Bytes on the wire).
 abbrev pub sent : ℕ → List ℕ
-sent v = clocks mostBits v ++ clock true
+sent v = clocks 8 v ++ clock true
 
 -- Bytes out of the host, one after the other (Bytes on the wire, array data).
 abbrev pub allSent : List ℕ → List ℕ
@@ -43,7 +43,7 @@ allSent (v ∷ vs) = sent v ++ allSent vs
 
 -- A byte out of the part: SDA is left high, in the ninth clock only after the last byte (Bytes on the wire, read).
 abbrev pub read : Bool → List ℕ
-read last = clocks mostBits 0xFF ++ clock last
+read last = clocks 8 0xFF ++ clock last
 
 -- So many bytes out of the part: the host acknowledges all but the last (Bytes on the wire, read).
 abbrev pub allRead : ℕ → List ℕ
@@ -53,11 +53,11 @@ allRead (suc (suc n)) = read false ++ allRead (suc n)
 
 -- The slave byte 1010, 0, S1, S0, R/W (Bytes on the wire, after a start).
 abbrev pub slaveByte : ℕ → Bool → ℕ
-slaveByte select reads = slaveCode * 8 + select * 2 + orZero reads 1
+slaveByte select reads = 0xA0 + select * 2 + orZero reads 1
 
 -- A start, the slave byte of a write, address high and address low (Bytes on the wire, write).
 abbrev pub addressed : ℕ → ℕ → List ℕ
-addressed select a = start ++ sent (slaveByte select false) ++ sent (a / byteValues) ++ sent (a % byteValues)
+addressed select a = start ++ sent (slaveByte select false) ++ sent (a / 256) ++ sent (a % 256)
 
 -- A page write: bytes from an address on, then a stop (Bytes on the wire, array data and stop).
 abbrev pub pageWrite : ℕ → ℕ → List ℕ → List ℕ
@@ -65,7 +65,7 @@ pageWrite select a vs = addressed select a ++ allSent vs ++ stop
 
 -- A register write of one byte (Control register, at a stop after one byte).
 abbrev pub registerWrite : ℕ → ℕ → List ℕ
-registerWrite select v = pageWrite select registerAddress (v ∷ [])
+registerWrite select v = pageWrite select 0xFFFF (v ∷ [])
 
 -- A read of so many bytes from an address on (Bytes on the wire, read).
 abbrev pub readFrom : ℕ → ℕ → ℕ → List ℕ
@@ -104,4 +104,4 @@ wait e = record { times = e ∷ []; levels = levelOf true true ∷ [] }
 
 -- The first samples after power-up: VCC good, then the whole hold, so that reset ends (State and time, power-up and 1).
 abbrev pub awake : List Capture
-awake = wait 0 ∷ wait mostElapsed ∷ wait mostElapsed ∷ []
+awake = wait 0 ∷ wait 100000 ∷ wait 100000 ∷ []
