@@ -6,8 +6,8 @@ use part::state::Lines;
 use part::state::Talk;
 use part::state::Wire;
 ghost use mathlib.Core.Path.{_≡_};
-ghost use Prim.Native.Nat.{_-_, _≤_, _<_};
-ghost use lib.ListN.{length, getD};
+ghost use Prim.Native.Nat.{_≤_};
+ghost use lib.ListN.{length};
 ghost use Rattle.clocks.specs.Clocks.{wireAt, clocksOf, fallenAt, cutAt, turnBy, seenAt, turnOf, Comes, Turned};
 ghost use Rattle.clocks.specs.Stands.{Clocked};
 
@@ -84,15 +84,13 @@ pub fn wire_of(c: Clocks) -> Wire
     }
 }
 
-// The clocks after an eighth or a ninth fall, the sample `i`, that left this talk.
-pub fn fallen(c: Clocks, talk: Talk, elapsed: &[u32], levels: &[u8], i: usize) -> Clocks
-    requires { ⌜ length (now elapsed) ≡ length (now levels) ⌝ }
-    requires { ⌜ i < length (now levels) ⌝ }
-    requires { ⌜ getD (now elapsed) i 0 ≤ c .room ⌝ }
-    ensures { λ r. ⌜ r ≡ fallenAt c talk (getD (now (elapsed .entry)) i 0) (getD (now (levels .entry)) i 0) ⌝ }
+// The clocks after an eighth or a ninth fall that left this talk.
+pub fn fallen(c: Clocks, talk: Talk, elapsed: u32, level: u8) -> Clocks
+    requires { ⌜ elapsed ≤ c .room ⌝ }
+    ensures { λ r. ⌜ r ≡ fallenAt c talk elapsed level ⌝ }
 {
-    let sda = answers::line(levels[i], c.own);
-    let room = c.room - elapsed[i];
+    let sda = answers::line(level, c.own);
+    let room = c.room - elapsed;
     if c.bits == BEFORE_LAST {
         return Clocks {
             room,
@@ -172,7 +170,8 @@ fn told(now: Clocks, level: u8) -> Turn
     Turn::Plain
 }
 
-fn turn_of(now: Clocks, elapsed: u32, level: u8) -> Turn
+// What a sample is to the loops.
+pub fn turn_of(now: Clocks, elapsed: u32, level: u8) -> Turn
     ensures { λ r. ⌜ r ≡ turnOf now elapsed level ⌝ }
 {
     if elapsed < now.room {
@@ -182,24 +181,6 @@ fn turn_of(now: Clocks, elapsed: u32, level: u8) -> Turn
         return Turn::Other;
     }
     Turn::Other
-}
-
-// What the sample `i` is to the loops.
-pub fn turn_at(c: Clocks, elapsed: &[u32], levels: &[u8], i: usize) -> Turn
-    requires { ⌜ length (now elapsed) ≡ length (now levels) ⌝ }
-    requires { ⌜ i < length (now levels) ⌝ }
-    ensures { λ r. ⌜ r ≡ turnOf c (getD (now (elapsed .entry)) i 0) (getD (now (levels .entry)) i 0) ⌝ }
-{
-    turn_of(c, elapsed[i], levels[i])
-}
-
-// The time that is left after the sample `i`.
-pub fn rest(room: u32, elapsed: &[u32], i: usize) -> u32
-    requires { ⌜ i < length (now elapsed) ⌝ }
-    requires { ⌜ getD (now elapsed) i 0 ≤ room ⌝ }
-    ensures { λ r. ⌜ r ≡ room - getD (now (elapsed .entry)) i 0 ⌝ }
-{
-    room - elapsed[i]
 }
 
 // The clocks after a plain sample.
@@ -243,16 +224,6 @@ fn turned(now: Clocks, sends: bool, elapsed: u32, level: u8) -> Clocks
     next
 }
 
-// The clocks after the sample `i`, a plain one.
-fn turned_at(c: Clocks, sends: bool, elapsed: &[u32], levels: &[u8], i: usize) -> Clocks
-    requires { ⌜ length (now elapsed) ≡ length (now levels) ⌝ }
-    requires { ⌜ i < length (now levels) ⌝ }
-    requires { ⌜ Comes c (getD (now elapsed) i 0) (getD (now levels) i 0) Turn.Plain ⌝ }
-    ensures { λ r. ⌜ Turned c sends (getD (now (elapsed .entry)) i 0) (getD (now (levels .entry)) i 0) r ⌝ }
-{
-    turned(c, sends, elapsed[i], levels[i])
-}
-
 // Stops before the first sample that is not plain.
 pub fn pass(
     first: Clocks,
@@ -271,11 +242,13 @@ pub fn pass(
     let mut now = first;
     let mut i = from;
     while i < levels.len() {
-        let turn = turn_at(now, elapsed, levels, i);
+        let spent = elapsed[i];
+        let level = levels[i];
+        let turn = turn_of(now, spent, level);
         let Turn::Plain = turn else {
             break;
         };
-        now = turned_at(now, sends, elapsed, levels, i);
+        now = turned(now, sends, spent, level);
         i = rooms::tell(row, i, now.own, base);
     }
     Ran { now, at: i }

@@ -82,7 +82,9 @@ fn go_on(
     let mut empty = false;
     let mut i = first.at;
     while i < levels.len() {
-        let turn = turns::turn_at(now, elapsed, levels, i);
+        let spent = elapsed[i];
+        let level = levels[i];
+        let turn = turns::turn_of(now, spent, level);
         match turn {
             Turn::Plain => {
                 let talk = device.talk;
@@ -103,12 +105,12 @@ fn go_on(
                     empty = false;
                 }
                 device = device::byte(kind, select, d, v);
-                now = turns::fallen(now, device.talk, elapsed, levels, i);
+                now = turns::fallen(now, device.talk, spent, level);
                 i = rooms::tell(row, i, now.own, base);
             }
             Turn::Ninth => {
                 device = bits::ninth(kind, array, now.bit, spoken(device, now));
-                now = turns::fallen(now, device.talk, elapsed, levels, i);
+                now = turns::fallen(now, device.talk, spent, level);
                 i = rooms::tell(row, i, now.own, base);
             }
             Turn::Start => {
@@ -117,8 +119,7 @@ fn go_on(
                     empty = true;
                 }
                 let control = device.control;
-                let rest = turns::rest(now.room, elapsed, i);
-                times = rooms::started(times, rest, control.stored);
+                times = rooms::started(times, now.room - spent, control.stored);
                 device = ends::start(0 < times.write, device);
                 now = turns::cut(false, times.all);
                 i = rooms::tell(row, i, true, base);
@@ -129,7 +130,7 @@ fn go_on(
                     break;
                 }
                 device = ends::end(device);
-                now = turns::cut(true, turns::rest(now.room, elapsed, i));
+                now = turns::cut(true, now.room - spent);
                 i = rooms::tell(row, i, true, base);
             }
             Turn::Other => {

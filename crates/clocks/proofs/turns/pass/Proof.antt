@@ -5,7 +5,7 @@ use mathlib.Core.List.{List, [], _∷_}
 use mathlib.Core.Path.{_≡_, refl, _∙_}
 use native.Mathlib.Omega.{arith}
 use native.Mathlib.Nat.{le-refl}
-use borrow.Author.Needs.{needs}
+use borrow.Author.Needs.{needs, scaled-fits}
 use types.Run.{miss}
 use lib.ListN.{length, getD}
 use Rattle.part.specs.declared.state.Device.{Device}
@@ -59,26 +59,37 @@ loop-holds c =
     let pre = c .before .before .before .pre in
     (pre .0, pre .1 .0, record { onward = le-refl _; first = λ e. refl; long = refl; stands = λ s array row₀ first t d m n g. g })
 
-turn-at-requires : tie.Need-turn-at-requires Inv-loop μ-loop
-turn-at-requires c κs = (c .before .loop .inv .0, c .loop-test .taken)
+mul-spent : tie.Need-mul-spent Inv-loop μ-loop
+mul-spent c =
+    let at = c .before .loop in
+    scaled-fits (at .i) _ 4 (as-long _ _ _ (c .loop-test .taken) (at .inv .0)) (c .before .before .before .before .before .good .1 .1 .1 .0 .1)
+
+shared-slice-read-spent : tie.Need-shared-slice-read-spent Inv-loop μ-loop
+shared-slice-read-spent c = as-long _ _ _ (c .before .loop-test .taken) (c .before .before .loop .inv .0)
+
+shared-slice-read-level : tie.Need-shared-slice-read-level Inv-loop μ-loop
+shared-slice-read-level c = c .before .before .loop-test .taken
+
+turn-of-requires : tie.Need-turn-of-requires Inv-loop μ-loop
+turn-of-requires c κs = tt
 
 enum-told : tie.Need-enum-told Inv-loop μ-loop
 enum-told c = search needs
 
-turned-at-requires : tie.Need-turned-at-requires Inv-loop μ-loop
-turned-at-requires c κs = (c .before .before .before .before .loop .inv .0, (c .before .before .before .loop-test .taken, comes-plain _ _ _ (c .before .before .turn-at .ensures) (c .enum-told .given .1)))
+turned-requires : tie.Need-turned-requires Inv-loop μ-loop
+turned-requires c κs = comes-plain _ _ _ (c .before .before .turn-of .ensures) (c .enum-told .given .1)
 
 tell-requires : tie.Need-tell-requires Inv-loop μ-loop
 tell-requires c κs =
-    let inv = c .before .before .before .before .before .before .loop .inv in
-    (as-long _ _ _ (c .before .before .before .before .before .loop-test .taken) (inv .2 .long ∙ inv .1), c .before .before .before .before .before .before .before .before .before .before .pre .1 .1)
+    let inv = c .before .before .before .before .before .before .before .before .loop .inv in
+    (as-long _ _ _ (c .before .before .before .before .before .before .before .loop-test .taken) (inv .2 .long ∙ inv .1), c .before .before .before .before .before .before .before .before .before .before .before .before .pre .1 .1)
 
 loop-less : tie.Need-loop-less Inv-loop μ-loop
-loop-less c = rw (c .before .before .tell .ensures .next) (next-less _ _ (c .before .before .before .before .before .before .before .before .loop-test .taken))
+loop-less c = rw (c .before .before .tell .ensures .next) (next-less _ _ (c .before .before .before .before .before .before .before .before .before .before .loop-test .taken))
 
 loop-again : tie.Need-loop-again Inv-loop μ-loop
 loop-again c =
-    let at = c .before .before .before .before .before .before .before .before .before .loop in
+    let at = c .before .before .before .before .before .before .before .before .before .before .before .loop in
     let inv = at .inv .2 in
     let told = c .before .before .tell .ensures in (
       at .inv .0,
@@ -87,7 +98,7 @@ loop-again c =
         onward = passes-on (inv .onward) (told .next);
         first = λ e. absurd (not-first (inv .onward) (told .next) e);
         long = told-long told ∙ inv .long;
-        stands = λ s array row₀ first t d m n g. plain-turn (inv .stands s array row₀ first t d m n g) (c .before .before .before .before .before .before .before .before .loop-test .taken) _ _ _ _ (comes-plain _ _ _ (c .before .before .before .before .before .before .before .turn-at .ensures) (c .before .before .before .before .before .enum-told .given .1)) (c .before .before .before .before .turned-at .ensures) n told;
+        stands = λ s array row₀ first t d m n g. plain-turn (inv .stands s array row₀ first t d m n g) (c .before .before .before .before .before .before .before .before .before .before .loop-test .taken) _ _ _ _ (comes-plain _ _ _ (c .before .before .before .before .before .before .before .turn-of .ensures) (c .before .before .before .before .before .enum-told .given .1)) (c .before .before .before .before .turned .ensures) n told;
       },
     )
 
@@ -100,14 +111,14 @@ returns c =
     record { onward = inv .onward; moves = λ p h. omega (arith, h, c .loop-test .left); long = inv .long; stands = inv .stands }
 
 same-length-2 : tie.Need-same-length-2 Inv-loop μ-loop
-same-length-2 c = c .before .before .before .loop .inv .2 .long
+same-length-2 c = c .before .before .before .before .before .loop .inv .2 .long
 
 returns-2 : tie.Need-returns-2 Inv-loop μ-loop
 returns-2 c =
-    let inv = c .before .before .before .loop .inv .2 in
+    let inv = c .before .before .before .before .before .loop .inv .2 in
     record {
       onward = inv .onward;
-      moves = λ p h. passed (inv .onward) (inv .first) (c .before .before .before .before .before .before .before .args .elapsed .now) (c .before .before .before .before .before .before .before .args .levels .now) (c .before .turn-at .ensures) p (λ e. miss (1 ∷ 2 ∷ 3 ∷ 4 ∷ 5 ∷ []) 0 tt (rw e at (c .match .keys2)));
+      moves = λ p h. passed (inv .onward) (inv .first) (c .before .before .before .before .before .before .before .before .before .args .elapsed .now) (c .before .before .before .before .before .before .before .before .before .args .levels .now) (c .before .turn-of .ensures) p (λ e. miss (1 ∷ 2 ∷ 3 ∷ 4 ∷ 5 ∷ []) 0 tt (rw e at (c .match .keys2)));
       long = inv .long;
       stands = inv .stands;
     }
@@ -119,9 +130,12 @@ pass-spec =
     Inv-loop
     μ-loop
     loop-holds
-    turn-at-requires
+    mul-spent
+    shared-slice-read-spent
+    shared-slice-read-level
+    turn-of-requires
     enum-told
-    turned-at-requires
+    turned-requires
     tell-requires
     loop-less
     loop-again

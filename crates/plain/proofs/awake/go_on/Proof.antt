@@ -4,7 +4,7 @@ use mathlib.Core.Bool.{Bool, true, false, not, _||_}
 use mathlib.Core.Logic.{⊎-elim}
 use mathlib.Core.Path.{_≡_, refl, sym, _∙_}
 use native.Mathlib.Nat.{le-of-lt}
-use borrow.Author.Needs.{needs}
+use borrow.Author.Needs.{needs, scaled-fits}
 use lib.ListN.{length}
 use Rattle.page.specs.Page.{emptyLoad}
 use Rattle.device.specs.Bytes.{keptOf}
@@ -39,13 +39,13 @@ neither-but false false h = never (sym h)
 
 -- The load after a byte, and that an empty one is empty.
 filled : (c : tie.Joined1 Inv-loop μ-loop)
-    → (c .if1 .load ≡ keptOf (c .before .before .before .before .before .before .before .before .before .before .before .before .before .before .before .before .before .args .kind) (c .before .before .before .spoken .result) (c .before .before .push .result) (c .before .before .before .before .before .before .before .before .loop .load))
+    → (c .if1 .load ≡ keptOf (c .before .before .before .before .before .before .before .before .before .before .before .before .before .before .before .before .before .before .before .args .kind) (c .before .before .before .spoken .result) (c .before .before .push .result) (c .before .before .before .before .before .before .before .before .before .before .loop .load))
     × (c .if1 .empty ≡ true → c .if1 .load ≡ emptyLoad)
 filled c =
     let h = c .before .fills .ensures in
     ⊎-elim
     (λ w. (w .3 ∙ kept-filled _ _ _ _ _ h (w .0 .taken), λ e. never (sym (w .4) ∙ e)))
-    (λ w. (w .1 ∙ kept-left _ _ _ _ _ h (w .0 .left), λ e. w .1 ∙ c .before .before .before .before .before .before .before .before .loop .inv .3 (sym (w .2) ∙ e)))
+    (λ w. (w .1 ∙ kept-left _ _ _ _ _ h (w .0 .left), λ e. w .1 ∙ c .before .before .before .before .before .before .before .before .before .before .loop .inv .3 (sym (w .2) ∙ e)))
     (c .if1 .came)
 
 -- A start leaves an empty load.
@@ -53,7 +53,7 @@ emptied : (c : tie.Joined2 Inv-loop μ-loop) → c .if2 .load ≡ emptyLoad
 emptied c =
     ⊎-elim
     (λ w. w .2 ∙ w .1 .ensures)
-    (λ w. w .1 ∙ c .before .before .before .before .before .loop .inv .3 (not-not _ (w .0 .left)))
+    (λ w. w .1 ∙ c .before .before .before .before .before .before .before .loop .inv .3 (not-not _ (w .0 .left)))
     (c .if2 .came)
 
 loop-holds : tie.Need-loop-holds Inv-loop μ-loop
@@ -61,8 +61,19 @@ loop-holds c =
     let pre = c .before .before .before .before .before .before .before .before .pre in
     (pre .0, pre .1 .0, record { long = refl; stands = λ s row₀ first k l g. g }, λ e. never e)
 
-turn-at-requires : tie.Need-turn-at-requires Inv-loop μ-loop
-turn-at-requires c κs = (c .before .loop .inv .0, c .loop-test .taken)
+mul-spent : tie.Need-mul-spent Inv-loop μ-loop
+mul-spent c =
+    let at = c .before .loop in
+    scaled-fits (at .i) _ 4 (as-long _ _ _ (c .loop-test .taken) (at .inv .0)) (c .before .before .before .before .before .before .before .before .before .before .good .1 .1 .1 .1 .0 .1)
+
+shared-slice-read-spent : tie.Need-shared-slice-read-spent Inv-loop μ-loop
+shared-slice-read-spent c = as-long _ _ _ (c .before .loop-test .taken) (c .before .before .loop .inv .0)
+
+shared-slice-read-level : tie.Need-shared-slice-read-level Inv-loop μ-loop
+shared-slice-read-level c = c .before .before .loop-test .taken
+
+turn-of-requires : tie.Need-turn-of-requires Inv-loop μ-loop
+turn-of-requires c κs = tt
 
 enum-told : tie.Need-enum-told Inv-loop μ-loop
 enum-told c = search needs
@@ -72,15 +83,15 @@ sends-requires c κs = tt
 
 pass-requires : tie.Need-pass-requires Inv-loop μ-loop
 pass-requires c κs =
-    let inv = c .before .before .before .before .before .before .before .loop .inv in
-    (inv .0, (inv .2 .long ∙ inv .1, c .before .before .before .before .before .before .before .before .before .before .before .before .before .before .before .before .pre .1 .1))
+    let inv = c .before .before .before .before .before .before .before .before .before .loop .inv in
+    (inv .0, (inv .2 .long ∙ inv .1, c .before .before .before .before .before .before .before .before .before .before .before .before .before .before .before .before .before .before .pre .1 .1))
 
 loop-less : tie.Need-loop-less Inv-loop μ-loop
-loop-less c = goes-less _ _ _ (c .before .before .before .before .before .before .before .before .before .before .loop-test .taken) (c .before .before .before .pass .ensures .moves (sym (c .before .before .before .before .before .before .before .before .before .turn-at .ensures) ∙ c .before .before .before .before .before .before .before .enum-told .given .1) (c .before .before .before .before .before .before .before .before .before .before .loop-test .taken))
+loop-less c = goes-less _ _ _ (c .before .before .before .before .before .before .before .before .before .before .before .before .loop-test .taken) (c .before .before .before .pass .ensures .moves (sym (c .before .before .before .before .before .before .before .before .before .turn-of .ensures) ∙ c .before .before .before .before .before .before .before .enum-told .given .1) (c .before .before .before .before .before .before .before .before .before .before .before .before .loop-test .taken))
 
 loop-again : tie.Need-loop-again Inv-loop μ-loop
 loop-again c =
-    let inv = c .before .before .before .before .before .before .before .before .before .before .before .loop .inv in
+    let inv = c .before .before .before .before .before .before .before .before .before .before .before .before .before .loop .inv in
     (inv .0, inv .1, record { long = c .before .before .before .pass .ensures .long ∙ inv .2 .long; stands = λ s row₀ first k l g. c .before .before .before .pass .ensures .stands s _ row₀ first _ _ _ (c .before .before .before .before .before .sends .ensures) (inv .2 .stands s row₀ first k l g) }, inv .3)
 
 enum-told-2 : tie.Need-enum-told-2 Inv-loop μ-loop
@@ -109,23 +120,23 @@ byte-requires c κs = tt
 
 fallen-requires : tie.Need-fallen-requires Inv-loop μ-loop
 fallen-requires c κs =
-    let k = comes-eighth _ _ _ (c .before .before .before .before .before .before .before .turn-at .ensures) (c .before .before .before .before .before .enum-told2 .given .1) in
-    (c .before .before .before .before .before .before .before .before .before .loop .inv .0, (c .before .before .before .before .before .before .before .before .loop-test .taken, le-of-lt (k .soon)))
+    let k = comes-eighth _ _ _ (c .before .before .before .before .before .before .before .turn-of .ensures) (c .before .before .before .before .before .enum-told2 .given .1) in
+    le-of-lt (k .soon)
 
 tell-requires : tie.Need-tell-requires Inv-loop μ-loop
 tell-requires c κs =
-    let inv = c .before .before .before .before .before .before .before .before .before .before .before .loop .inv in
-    (as-long _ _ _ (c .before .before .before .before .before .before .before .before .before .before .loop-test .taken) (inv .2 .long ∙ inv .1), c .before .before .before .before .before .before .before .before .before .before .before .before .before .before .before .before .before .before .before .before .pre .1 .1)
+    let inv = c .before .before .before .before .before .before .before .before .before .before .before .before .before .loop .inv in
+    (as-long _ _ _ (c .before .before .before .before .before .before .before .before .before .before .before .before .loop-test .taken) (inv .2 .long ∙ inv .1), c .before .before .before .before .before .before .before .before .before .before .before .before .before .before .before .before .before .before .before .before .before .before .pre .1 .1)
 
 loop-less-2 : tie.Need-loop-less-2 Inv-loop μ-loop
-loop-less-2 c = rw (c .before .before .tell .ensures .next) (next-less _ _ (c .before .before .before .before .before .before .before .before .before .before .before .before .before .loop-test .taken))
+loop-less-2 c = rw (c .before .before .tell .ensures .next) (next-less _ _ (c .before .before .before .before .before .before .before .before .before .before .before .before .before .before .before .loop-test .taken))
 
 loop-again-2 : tie.Need-loop-again-2 Inv-loop μ-loop
 loop-again-2 c =
-    let inv = c .before .before .before .before .before .before .before .before .before .before .before .before .before .before .loop .inv in
-    let k = comes-eighth _ _ _ (c .before .before .before .before .before .before .before .before .before .before .before .before .turn-at .ensures) (c .before .before .before .before .before .before .before .before .before .before .enum-told2 .given .1) in
+    let inv = c .before .before .before .before .before .before .before .before .before .before .before .before .before .before .before .before .loop .inv in
+    let k = comes-eighth _ _ _ (c .before .before .before .before .before .before .before .before .before .before .before .before .turn-of .ensures) (c .before .before .before .before .before .before .before .before .before .before .enum-told2 .given .1) in
     let f = filled (c .before .before .before .before .before .before) in
-    (inv .0, inv .1, record { long = told-long (c .before .before .tell .ensures) ∙ inv .2 .long; stands = λ s row₀ first j l g. eighth-turn (inv .2 .stands s row₀ first j l g) (c .before .before .before .before .before .before .before .before .before .before .before .before .before .loop-test .taken) (c .before .before .before .before .before .before .before .before .before .before .before .before .before .before .before .before .before .before .before .before .before .before .before .args .kind) (c .before .before .before .before .before .before .before .before .before .before .before .before .before .before .before .before .before .before .before .before .before .before .before .args .select) (c .before .before .before .before .before .before .before .before .before .spoken .result) _ _ _ _ _ _ k (c .before .before .before .before .before .before .before .before .push .ensures) j l (c .before .before .before .before .before .before .before .before .before .spoken .ensures) (c .before .before .before .before .before .byte .ensures) (f .0) (c .before .before .before .before .fallen .ensures) (c .before .before .tell .ensures) }, f .1)
+    (inv .0, inv .1, record { long = told-long (c .before .before .tell .ensures) ∙ inv .2 .long; stands = λ s row₀ first j l g. eighth-turn (inv .2 .stands s row₀ first j l g) (c .before .before .before .before .before .before .before .before .before .before .before .before .before .before .before .loop-test .taken) (c .before .before .before .before .before .before .before .before .before .before .before .before .before .before .before .before .before .before .before .before .before .before .before .before .before .args .kind) (c .before .before .before .before .before .before .before .before .before .before .before .before .before .before .before .before .before .before .before .before .before .before .before .before .before .args .select) (c .before .before .before .before .before .before .before .before .before .spoken .result) _ _ _ _ _ _ k (c .before .before .before .before .before .before .before .before .push .ensures) j l (c .before .before .before .before .before .before .before .before .before .spoken .ensures) (c .before .before .before .before .before .byte .ensures) (f .0) (c .before .before .before .before .fallen .ensures) (c .before .before .tell .ensures) }, f .1)
 
 enum-told-3 : tie.Need-enum-told-3 Inv-loop μ-loop
 enum-told-3 c = search needs
@@ -138,22 +149,22 @@ ninth-requires c κs = tt
 
 fallen-requires-2 : tie.Need-fallen-requires-2 Inv-loop μ-loop
 fallen-requires-2 c κs =
-    let k = comes-ninth _ _ _ (c .before .before .before .before .turn-at .ensures) (c .before .before .enum-told3 .given .1) in
-    (c .before .before .before .before .before .before .loop .inv .0, (c .before .before .before .before .before .loop-test .taken, le-of-lt (k .soon)))
+    let k = comes-ninth _ _ _ (c .before .before .before .before .turn-of .ensures) (c .before .before .enum-told3 .given .1) in
+    le-of-lt (k .soon)
 
 tell-requires-2 : tie.Need-tell-requires-2 Inv-loop μ-loop
 tell-requires-2 c κs =
-    let inv = c .before .before .before .before .before .before .before .before .loop .inv in
-    (as-long _ _ _ (c .before .before .before .before .before .before .before .loop-test .taken) (inv .2 .long ∙ inv .1), c .before .before .before .before .before .before .before .before .before .before .before .before .before .before .before .before .before .pre .1 .1)
+    let inv = c .before .before .before .before .before .before .before .before .before .before .loop .inv in
+    (as-long _ _ _ (c .before .before .before .before .before .before .before .before .before .loop-test .taken) (inv .2 .long ∙ inv .1), c .before .before .before .before .before .before .before .before .before .before .before .before .before .before .before .before .before .before .before .pre .1 .1)
 
 loop-less-3 : tie.Need-loop-less-3 Inv-loop μ-loop
-loop-less-3 c = rw (c .before .before .tell2 .ensures .next) (next-less _ _ (c .before .before .before .before .before .before .before .before .before .before .loop-test .taken))
+loop-less-3 c = rw (c .before .before .tell2 .ensures .next) (next-less _ _ (c .before .before .before .before .before .before .before .before .before .before .before .before .loop-test .taken))
 
 loop-again-3 : tie.Need-loop-again-3 Inv-loop μ-loop
 loop-again-3 c =
-    let inv = c .before .before .before .before .before .before .before .before .before .before .before .loop .inv in
-    let k = comes-ninth _ _ _ (c .before .before .before .before .before .before .before .before .before .turn-at .ensures) (c .before .before .before .before .before .before .before .enum-told3 .given .1) in
-    (inv .0, inv .1, record { long = told-long (c .before .before .tell2 .ensures) ∙ inv .2 .long; stands = λ s row₀ first j l g. ninth-turn (inv .2 .stands s row₀ first j l g) (c .before .before .before .before .before .before .before .before .before .before .loop-test .taken) (c .before .before .before .before .before .before .before .before .before .before .before .before .before .before .before .before .before .before .before .before .args .kind) (c .before .before .before .before .before .before .spoken2 .result) _ _ _ _ k j (c .before .before .before .before .before .before .spoken2 .ensures) (c .before .before .before .before .before .ninth .ensures) (c .before .before .before .before .fallen2 .ensures) (c .before .before .tell2 .ensures) }, inv .3)
+    let inv = c .before .before .before .before .before .before .before .before .before .before .before .before .before .loop .inv in
+    let k = comes-ninth _ _ _ (c .before .before .before .before .before .before .before .before .before .turn-of .ensures) (c .before .before .before .before .before .before .before .enum-told3 .given .1) in
+    (inv .0, inv .1, record { long = told-long (c .before .before .tell2 .ensures) ∙ inv .2 .long; stands = λ s row₀ first j l g. ninth-turn (inv .2 .stands s row₀ first j l g) (c .before .before .before .before .before .before .before .before .before .before .before .before .loop-test .taken) (c .before .before .before .before .before .before .before .before .before .before .before .before .before .before .before .before .before .before .before .before .before .before .args .kind) (c .before .before .before .before .before .before .spoken2 .result) _ _ _ _ k j (c .before .before .before .before .before .before .spoken2 .ensures) (c .before .before .before .before .before .ninth .ensures) (c .before .before .before .before .fallen2 .ensures) (c .before .before .tell2 .ensures) }, inv .3)
 
 enum-told-4 : tie.Need-enum-told-4 Inv-loop μ-loop
 enum-told-4 c = search needs
@@ -161,10 +172,10 @@ enum-told-4 c = search needs
 empty-requires : tie.Need-empty-requires Inv-loop μ-loop
 empty-requires c κs = tt
 
-rest-requires : tie.Need-rest-requires Inv-loop μ-loop
-rest-requires c κs =
-    let k = comes-start _ _ _ (c .before .before .before .before .turn-at .ensures) (c .before .before .enum-told4 .given .1) in
-    (as-long _ _ _ (c .before .before .before .before .before .loop-test .taken) (c .before .before .before .before .before .before .loop .inv .0), le-of-lt (k .soon))
+sub-started : tie.Need-sub-started Inv-loop μ-loop
+sub-started c =
+    let k = comes-start _ _ _ (c .before .before .before .before .before .turn-of .ensures) (c .before .before .before .enum-told4 .given .1) in
+    le-of-lt (k .soon)
 
 started-requires : tie.Need-started-requires Inv-loop μ-loop
 started-requires c κs = tt
@@ -177,18 +188,18 @@ cut-requires c κs = tt
 
 tell-requires-3 : tie.Need-tell-requires-3 Inv-loop μ-loop
 tell-requires-3 c κs =
-    let inv = c .before .before .before .before .before .before .before .before .before .before .before .before .loop .inv in
-    (as-long _ _ _ (c .before .before .before .before .before .before .before .before .before .before .before .loop-test .taken) (inv .2 .long ∙ inv .1), c .before .before .before .before .before .before .before .before .before .before .before .before .before .before .before .before .before .before .before .before .before .pre .1 .1)
+    let inv = c .before .before .before .before .before .before .before .before .before .before .before .before .before .before .loop .inv in
+    (as-long _ _ _ (c .before .before .before .before .before .before .before .before .before .before .before .before .before .loop-test .taken) (inv .2 .long ∙ inv .1), c .before .before .before .before .before .before .before .before .before .before .before .before .before .before .before .before .before .before .before .before .before .before .before .pre .1 .1)
 
 loop-less-4 : tie.Need-loop-less-4 Inv-loop μ-loop
-loop-less-4 c = rw (c .before .before .tell3 .ensures .next) (next-less _ _ (c .before .before .before .before .before .before .before .before .before .before .before .before .before .before .loop-test .taken))
+loop-less-4 c = rw (c .before .before .tell3 .ensures .next) (next-less _ _ (c .before .before .before .before .before .before .before .before .before .before .before .before .before .before .before .before .loop-test .taken))
 
 loop-again-4 : tie.Need-loop-again-4 Inv-loop μ-loop
 loop-again-4 c =
-    let inv = c .before .before .before .before .before .before .before .before .before .before .before .before .before .before .before .loop .inv in
-    let k = comes-start _ _ _ (c .before .before .before .before .before .before .before .before .before .before .before .before .before .turn-at .ensures) (c .before .before .before .before .before .before .before .before .before .before .before .enum-told4 .given .1) in
+    let inv = c .before .before .before .before .before .before .before .before .before .before .before .before .before .before .before .before .before .loop .inv in
+    let k = comes-start _ _ _ (c .before .before .before .before .before .before .before .before .before .before .before .before .before .turn-of .ensures) (c .before .before .before .before .before .before .before .before .before .before .before .enum-told4 .given .1) in
     let e = emptied (c .before .before .before .before .before .before .before .before .before .before) in
-    (inv .0, inv .1, record { long = told-long (c .before .before .tell3 .ensures) ∙ inv .2 .long; stands = λ s row₀ first j l g. start-turn (inv .2 .stands s row₀ first j l g) (c .before .before .before .before .before .before .before .before .before .before .before .before .before .before .loop-test .taken) _ _ _ _ _ _ _ k (c .before .before .before .before .before .before .before .before .rest .ensures) (c .before .before .before .before .before .before .before .started .ensures) (c .before .before .before .before .before .start .ensures) e (c .before .before .before .before .cut .ensures) (c .before .before .tell3 .ensures) }, λ h. e)
+    (inv .0, inv .1, record { long = told-long (c .before .before .tell3 .ensures) ∙ inv .2 .long; stands = λ s row₀ first j l g. start-turn (inv .2 .stands s row₀ first j l g) (c .before .before .before .before .before .before .before .before .before .before .before .before .before .before .before .before .loop-test .taken) _ _ _ _ _ _ _ k refl (c .before .before .before .before .before .before .before .started .ensures) (c .before .before .before .before .before .start .ensures) e (c .before .before .before .before .cut .ensures) (c .before .before .tell3 .ensures) }, λ h. e)
 
 enum-told-5 : tie.Need-enum-told-5 Inv-loop μ-loop
 enum-told-5 c = search needs
@@ -196,28 +207,28 @@ enum-told-5 c = search needs
 end-requires : tie.Need-end-requires Inv-loop μ-loop
 end-requires c κs = tt
 
-rest-requires-2 : tie.Need-rest-requires-2 Inv-loop μ-loop
-rest-requires-2 c κs =
-    let k = comes-stop _ _ _ (c .before .before .before .before .before .before .turn-at .ensures) (c .before .before .before .before .enum-told5 .given .1) in
-    (as-long _ _ _ (c .before .before .before .before .before .before .before .loop-test .taken) (c .before .before .before .before .before .before .before .before .loop .inv .0), le-of-lt (k .soon))
+sub-cut : tie.Need-sub-cut Inv-loop μ-loop
+sub-cut c =
+    let k = comes-stop _ _ _ (c .before .before .before .before .before .before .before .turn-of .ensures) (c .before .before .before .before .before .enum-told5 .given .1) in
+    le-of-lt (k .soon)
 
 cut-requires-2 : tie.Need-cut-requires-2 Inv-loop μ-loop
 cut-requires-2 c κs = tt
 
 tell-requires-4 : tie.Need-tell-requires-4 Inv-loop μ-loop
 tell-requires-4 c κs =
-    let inv = c .before .before .before .before .before .before .before .before .before .before .before .loop .inv in
-    (as-long _ _ _ (c .before .before .before .before .before .before .before .before .before .before .loop-test .taken) (inv .2 .long ∙ inv .1), c .before .before .before .before .before .before .before .before .before .before .before .before .before .before .before .before .before .before .before .before .pre .1 .1)
+    let inv = c .before .before .before .before .before .before .before .before .before .before .before .before .before .loop .inv in
+    (as-long _ _ _ (c .before .before .before .before .before .before .before .before .before .before .before .before .loop-test .taken) (inv .2 .long ∙ inv .1), c .before .before .before .before .before .before .before .before .before .before .before .before .before .before .before .before .before .before .before .before .before .before .pre .1 .1)
 
 loop-less-5 : tie.Need-loop-less-5 Inv-loop μ-loop
-loop-less-5 c = rw (c .before .before .tell4 .ensures .next) (next-less _ _ (c .before .before .before .before .before .before .before .before .before .before .before .before .before .loop-test .taken))
+loop-less-5 c = rw (c .before .before .tell4 .ensures .next) (next-less _ _ (c .before .before .before .before .before .before .before .before .before .before .before .before .before .before .before .loop-test .taken))
 
 loop-again-5 : tie.Need-loop-again-5 Inv-loop μ-loop
 loop-again-5 c =
-    let inv = c .before .before .before .before .before .before .before .before .before .before .before .before .before .before .loop .inv in
-    let k = comes-stop _ _ _ (c .before .before .before .before .before .before .before .before .before .before .before .before .turn-at .ensures) (c .before .before .before .before .before .before .before .before .before .before .enum-told5 .given .1) in
+    let inv = c .before .before .before .before .before .before .before .before .before .before .before .before .before .before .before .before .loop .inv in
+    let k = comes-stop _ _ _ (c .before .before .before .before .before .before .before .before .before .before .before .before .turn-of .ensures) (c .before .before .before .before .before .before .before .before .before .before .enum-told5 .given .1) in
     let n = neither-but _ _ (c .before .before .before .before .before .before .before .if3 .left) in
-    (inv .0, inv .1, record { long = told-long (c .before .before .tell4 .ensures) ∙ inv .2 .long; stands = λ s row₀ first j l g. stop-turn (inv .2 .stands s row₀ first j l g) (c .before .before .before .before .before .before .before .before .before .before .before .before .before .loop-test .taken) _ _ _ _ _ k (c .before .before .before .before .before .before .end .ensures) (n .0) (inv .3 (n .1)) (c .before .before .before .before .cut2 .ensures) (c .before .before .before .before .before .rest2 .ensures) (c .before .before .tell4 .ensures) }, inv .3)
+    (inv .0, inv .1, record { long = told-long (c .before .before .tell4 .ensures) ∙ inv .2 .long; stands = λ s row₀ first j l g. stop-turn (inv .2 .stands s row₀ first j l g) (c .before .before .before .before .before .before .before .before .before .before .before .before .before .before .before .loop-test .taken) _ _ _ _ _ k (c .before .before .before .before .before .before .end .ensures) (n .0) (inv .3 (n .1)) (c .before .before .before .before .cut2 .ensures) refl (c .before .before .tell4 .ensures) }, inv .3)
 
 enum-told-6 : tie.Need-enum-told-6 Inv-loop μ-loop
 enum-told-6 c = search needs
@@ -238,7 +249,10 @@ go-on-spec =
     Inv-loop
     μ-loop
     loop-holds
-    turn-at-requires
+    mul-spent
+    shared-slice-read-spent
+    shared-slice-read-level
+    turn-of-requires
     enum-told
     sends-requires
     pass-requires
@@ -265,7 +279,7 @@ go-on-spec =
     loop-again-3
     enum-told-4
     empty-requires
-    rest-requires
+    sub-started
     started-requires
     start-requires
     cut-requires
@@ -274,7 +288,7 @@ go-on-spec =
     loop-again-4
     enum-told-5
     end-requires
-    rest-requires-2
+    sub-cut
     cut-requires-2
     tell-requires-4
     loop-less-5
