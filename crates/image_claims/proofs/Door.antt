@@ -43,5 +43,5 @@ door-from trip =
           n b x (reply-means (accepted n)) o y
           in
           let t : verdictOf reading (length text) ≡ accepted n = sym (reply-means (verdictOf reading (length text))) ∙ z .reply in
-          (q .kept ∙ rw h (z .same), w .reply ∙ rw (d, v), q .reply ∙ rw (h, t));
+          (w .answer ∙ rw d, q .answer ∙ rw h, q .kept ∙ rw h (z .same), w .reply ∙ rw (d, v), q .reply ∙ rw (h, t));
     }
