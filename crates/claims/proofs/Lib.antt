@@ -1,4 +1,5 @@
 pub mod AtInputs
+pub mod Starting
 pub mod BenchList
 pub mod Demand1
 pub mod OneReply
