@@ -3,4 +3,5 @@ pub mod Starting
 pub mod BenchList
 pub mod Demand1
 pub mod OneReply
+pub mod SomeReply
 pub mod Claims

@@ -14,12 +14,12 @@ use Rattle.image.specs.Promises.{imageOf, ReadsImage, WritesImage}
 use Rattle.image_claims.specs.Images.{WriteThenRead, DoorTrip}
 
 -- The reply that says a verdict.
-abbrev replyOf : Verdict → Reply
+abbrev pub replyOf : Verdict → Reply
 replyOf (accepted n) = Accepted n
 replyOf (refused k p) = Refused k p
 
 -- It means that verdict.
-reply-means : (v : Verdict) → meant (replyOf v) ≡ v
+pub reply-means : (v : Verdict) → meant (replyOf v) ≡ v
 unfolding meant
 reply-means (accepted n) = refl
 reply-means (refused k p) = refl
