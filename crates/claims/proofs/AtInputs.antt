@@ -2,8 +2,9 @@
 use Prim.Native.Nat.{ℕ}
 use mathlib.Core.List.{List, [], _∷_, _++_}
 use mathlib.Core.Path.{_≡_, refl, sym}
+use native.Mathlib.Omega.{arith}
 use lib.Dec.{leb}
-use lib.ListN.{drop}
+use lib.ListN.{length, drop}
 use Rattle.ground.specs.Kind.{kindOf}
 use Rattle.ground.specs.Numbers.{x4323, smallSize}
 use Rattle.ground.specs.Size.{sizeMeant}
@@ -84,6 +85,10 @@ register-clear : ReadsRegister fresh 0
 unfolding poweredUp
 register-clear = record { byte = refl }
 
+-- A row of one number has not two.
+one-number : ¬ (length {A = ℕ} (7 ∷ []) ≡ 2)
+one-number e = let f : _≡_ {A = ℕ} 1 2 = e in omega arith
+
 -- Demand 1 at these inputs.
 pub refused-from : Demand1 → RefusedAt
 unfolding refusalLine decimalOf glyphOf kindOf
@@ -106,6 +111,10 @@ refused-from d =
       door-read-image = λ r array′ numbers′ x. d .door-read-image smallSize [] ones (7 ∷ 7 ∷ []) r array′ numbers′ 17 0 x refl no-text;
       door-write-image = λ r out′ numbers′ x.
           d .door-write-image smallSize ones [] (7 ∷ 7 ∷ []) r out′ numbers′ 19 0 x refl no-room;
+      door-row-replay = λ r array′ row′ numbers′ x.
+          d .door-row-replay x4323 0 0 (1 ∷ 1 ∷ []) (0 ∷ 0 ∷ []) ones rows (7 ∷ []) r array′ row′ numbers′ x one-number;
+      door-row-read-image = λ r array′ numbers′ x. d .door-row-read-image smallSize [] ones (7 ∷ []) r array′ numbers′ x one-number;
+      door-row-write-image = λ r out′ numbers′ x. d .door-row-write-image smallSize ones [] (7 ∷ []) r out′ numbers′ x one-number;
     }
 
 -- The one reply at these inputs: the outcome that is written out keeps the promise.

@@ -68,6 +68,14 @@ pub record RefusedAt : Type 0 where
       → (r ≡ 1) × (numbers′ ≡ 17 ∷ 0 ∷ []) × (array′ ≡ ones)
   pub door-write-image : (r : ℕ) (out′ numbers′ : List ℕ) → WritesThrough smallSize ones [] (7 ∷ 7 ∷ []) r out′ numbers′
       → (r ≡ 1) × (numbers′ ≡ 19 ∷ 0 ∷ []) × (out′ ≡ [])
+  -- a reply row of one number
+  pub door-row-replay : (r : ℕ) (array′ row′ numbers′ : List ℕ)
+      → ReplaysOnce x4323 0 0 (1 ∷ 1 ∷ []) (0 ∷ 0 ∷ []) ones rows (7 ∷ []) r array′ row′ numbers′
+      → (r ≡ 0) × (numbers′ ≡ 7 ∷ []) × (array′ ≡ ones) × (row′ ≡ rows)
+  pub door-row-read-image : (r : ℕ) (array′ numbers′ : List ℕ) → ReadsThrough smallSize [] ones (7 ∷ []) r array′ numbers′
+      → (r ≡ 0) × (numbers′ ≡ 7 ∷ []) × (array′ ≡ ones)
+  pub door-row-write-image : (r : ℕ) (out′ numbers′ : List ℕ) → WritesThrough smallSize ones [] (7 ∷ []) r out′ numbers′
+      → (r ≡ 0) × (numbers′ ≡ 7 ∷ []) × (out′ ≡ [])
 
 -- The same refusals as whole outcomes, and the register of that part: there is no other (Leaving no slack, only one possible reply).
 pub record OneAt : Type 0 where
