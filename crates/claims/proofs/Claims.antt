@@ -10,6 +10,7 @@ use Rattle.claims.specs.AtInputs.{RefusedAt, OneAt}
 use Rattle.claims.specs.Claims.{Claims}
 use Rattle.claims.proofs.Demand1.{demand-1}
 use Rattle.claims.proofs.OneReply.{one-reply}
+use Rattle.claims.proofs.SomeReply.{some-reply}
 use Rattle.claims.proofs.AtInputs.{refused-from, one-from}
 use Rattle.claims.proofs.BenchList.{bench-cases}
 
@@ -50,6 +51,7 @@ claims =
       room-enough = room-enough;
       at-paper = at-paper;
       one-reply = one-reply;
+      some-reply = some-reply;
       one-at = one-at;
       exactly = exactly;
       no-refusal-without-cause = no-refusal-without-cause;

@@ -3,7 +3,7 @@
 -- stored byte 00h. It rests on the promises alone. No axiom is used.
 use mathlib.Core.Path.{sym, _∙_}
 use lib.ListN.{length}
-use borrow.Author.Tests.{eq-eqb}
+use borrow.Author.Tests.{eq-eqb, ne-eqb}
 use Rattle.tidying.specs.Shown.{shownOf}
 use Rattle.captures.specs.Once.{captureVerdict}
 use Rattle.claims.specs.Demand1.{Demand1}
@@ -32,6 +32,15 @@ demand-1 =
       door-write-image = λ size array out numbers r out′ numbers′ k p x h v.
           let e = eq-eqb (length numbers) 2 h in
           (x .answer ∙ rw e, x .reply ∙ rw (e, v), x .said ∙ rw (e, v));
+      door-row-replay = λ part select stored es ls array row numbers r array′ row′ numbers′ x h.
+          let e = ne-eqb (length numbers) 2 h in
+          (x .answer ∙ rw e, x .reply ∙ rw e, x .kept ∙ rw e, x .said ∙ rw e);
+      door-row-read-image = λ size text array numbers r array′ numbers′ x h.
+          let e = ne-eqb (length numbers) 2 h in
+          (x .answer ∙ rw e, x .reply ∙ rw e, x .kept ∙ rw e);
+      door-row-write-image = λ size array out numbers r out′ numbers′ x h.
+          let e = ne-eqb (length numbers) 2 h in
+          (x .answer ∙ rw e, x .reply ∙ rw e, x .said ∙ rw e);
       list = λ s es ls array row r array′ row′ k p x v.
           (x .reply ∙ rw v, x .state ∙ rw v, x .kept ∙ rw v, x .said ∙ rw v);
       only = λ s es ls array row r array′ row′ k p x e. sym (x .reply) ∙ e;

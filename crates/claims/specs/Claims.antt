@@ -14,6 +14,7 @@ use Rattle.exactly.specs.Exactly.{Exactly}
 use Rattle.exactly.specs.Causes.{NoRefusalWithoutCause}
 use Rattle.claims.specs.Demand1.{Demand1}
 use Rattle.claims.specs.OneReply.{OneReply}
+use Rattle.claims.specs.SomeReply.{SomeReply}
 use Rattle.claims.specs.AtInputs.{RefusedAt, OneAt}
 use Rattle.claims.specs.BenchCases.{BenchCases}
 
@@ -54,8 +55,9 @@ pub record Claims : Type 0 where
   pub room-enough : RoomEnough
   -- The claims on images, used at the image that the paper shows.
   pub at-paper : AtPaper
-  -- For each public operation and every input there is only one possible reply.
+  -- For each public operation and every input there is only one possible reply, and there is one.
   pub one-reply : OneReply
+  pub some-reply : SomeReply
   pub one-at : OneAt
   -- For each refusal number exactly when it is the reply, and no refusal without cause.
   pub exactly : Exactly

@@ -1,9 +1,11 @@
 -- Demand 1 (document 01, Refusal numbers, last lines). Whatever goes in: where the table of refusals has a number and a place for it, an
 -- outcome that keeps the operation's promise says these, and nothing has changed: a replay hands back the state given and leaves array and
 -- answer row as they were, a list of transfers the state, the array and the row of entries, a reading leaves the array, a writing the buffer; the program writes one line. A refused power-up hands back the
--- state of part 4323, select 0, stored byte 00h. Through the door the two numbers of the reply row are that number and that place. What is lent for reading only (times, levels, text) no operation can change.
+-- state of part 4323, select 0, stored byte 00h. Through the door the two numbers of the reply row are that number and that place: this row
+-- and the program's line are all that a refusal writes. Where a reply row is not two numbers long nothing is done, and the answer is 0. What
+-- is lent for reading only (times, levels, text) no operation can change.
 -- For a person from the line: give it anything. What it cannot use it turns away with a number that says why and a place that says where, and
--- everything you lent comes back as you lent it.
+-- everything you lent comes back as you lent it, but for the row or the line that tells you this.
 use Prim.Native.Nat.{ℕ}
 use mathlib.Core.List.{List, [], _∷_, _++_}
 use mathlib.Core.Path.{_≡_}
@@ -63,6 +65,16 @@ pub record Demand1 : Type 0 where
   pub door-write-image : (size : ℕ) (array out numbers : List ℕ) (r : ℕ) (out′ numbers′ : List ℕ) (k p : ℕ)
       → WritesThrough size array out numbers r out′ numbers′ → length numbers ≡ 2 → writeVerdict intel size array out ≡ refused k p
       → (r ≡ 1) × (numbers′ ≡ k ∷ p ∷ []) × (out′ ≡ out)
+  -- by our choice nothing is done for a reply row that is not two numbers long
+  pub door-row-replay : (part select stored : ℕ) (es ls array row numbers : List ℕ) (r : ℕ) (array′ row′ numbers′ : List ℕ)
+      → ReplaysOnce part select stored es ls array row numbers r array′ row′ numbers′ → ¬ (length numbers ≡ 2)
+      → (r ≡ 0) × (numbers′ ≡ numbers) × (array′ ≡ array) × (row′ ≡ row)
+  pub door-row-read-image : (size : ℕ) (text array numbers : List ℕ) (r : ℕ) (array′ numbers′ : List ℕ)
+      → ReadsThrough size text array numbers r array′ numbers′ → ¬ (length numbers ≡ 2)
+      → (r ≡ 0) × (numbers′ ≡ numbers) × (array′ ≡ array)
+  pub door-row-write-image : (size : ℕ) (array out numbers : List ℕ) (r : ℕ) (out′ numbers′ : List ℕ)
+      → WritesThrough size array out numbers r out′ numbers′ → ¬ (length numbers ≡ 2)
+      → (r ≡ 0) × (numbers′ ≡ numbers) × (out′ ≡ out)
   pub list : (s : State) (es ls array row : List ℕ) (r : Listed) (array′ row′ : List ℕ) (k p : ℕ)
       → Lists s es ls array row r array′ row′ → captureOf s es ls array ≡ refused k p
       → (meant (r .reply) ≡ refused k p) × (r .state ≡ s) × (array′ ≡ array) × (row′ ≡ row)

@@ -3,7 +3,7 @@ use Prim.Native.Nat.{ℕ, _+_, _*_, _/_, _≤_, _<_}
 use mathlib.Core.Bool.{Bool, true, false}
 use mathlib.Core.List.{List}
 use mathlib.Core.Logic.{_↔_, _⊎_, inl, inr, Iff·trans}
-use mathlib.Core.Path.{_≡_, refl, sym, _∙_}
+use mathlib.Core.Path.{_≡_, refl, ap, sym, _∙_}
 use native.Mathlib.Omega.{arith}
 use lib.Dec.{eqb, leb}
 use lib.ListN.{length}
@@ -11,7 +11,9 @@ use borrow.Author.Tests.{eqb-true, eq-eqb, leb-true, le-leb}
 use Rattle.ground.specs.Verdict.{Verdict, accepted, refused}
 use Rattle.ground.proofs.Tests.{and-split}
 use Rattle.ground.proofs.Verdicts.{apart}
-use Rattle.forms.specs.Writing.{linesLength, lengthOf}
+use Rattle.forms.specs.Writing.{imageText, linesLength, lengthOf}
+use Rattle.forms.proofs.Lengths.{length-image}
+use Rattle.formats.proofs.Named.{intel-measured}
 use Rattle.intel.specs.Intel.{intel}
 use Rattle.image.specs.Promises.{sized, writeBy, writeVerdict}
 use Rattle.exactly.specs.ReadImage.{Sized}
@@ -69,19 +71,24 @@ module _ (size : ℕ) (array out : List ℕ) where
         ∙ stopped (leb (44 * (size / 16) + 12) (length out)) 19 p (accepted (lengthOf intel array)) (fails (decides-le (44 * (size / 16) + 12) (length out)) (h .2)) (h .0),
   )
 
-  taken : ((n : ℕ) × (writeVerdict intel size array out ≡ accepted n)) ↔ (Sized size array × (44 * (size / 16) + 12 ≤ length out))
-  taken = (
+  taken : (n : ℕ) → (writeVerdict intel size array out ≡ accepted n)
+      ↔ ((n ≡ length (imageText intel array)) × Sized size array × (44 * (size / 16) + 12 ≤ length out))
+  taken n = (
+    λ e.
+        let t = through (sized size (length array)) 5 n room (sym by-steps ∙ e) in
+        let u = through (leb (44 * (size / 16) + 12) (length out)) 19 n (accepted (lengthOf intel array)) (t .1) in
+        let v : accepted (lengthOf intel array) ≡ accepted n = u .1 in
+        let m : n ≡ lengthOf intel array = cc in (
+          m ∙ sym (length-image intel intel-measured array),
+          decides-sized size array .yes (t .0),
+          decides-le (44 * (size / 16) + 12) (length out) .yes (u .0),
+        ),
     λ h.
-        let t = through (sized size (length array)) 5 (h .0) room (sym by-steps ∙ h .1) in
-        let u =
-        through (leb (44 * (size / 16) + 12) (length out)) 19 (h .0) (accepted (lengthOf intel array)) (t .1) in
-        (decides-sized size array .yes (t .0), decides-le (44 * (size / 16) + 12) (length out) .yes (u .0)),
-    λ h. (
-      lengthOf intel array,
-      by-steps
-          ∙ passed (sized size (length array)) 5 room (holds (decides-sized size array) (h .0))
-          ∙ passed (leb (44 * (size / 16) + 12) (length out)) 19 (accepted (lengthOf intel array)) (holds (decides-le (44 * (size / 16) + 12) (length out)) (h .1)),
-    ),
+        let m : lengthOf intel array ≡ n = sym (h .0 ∙ length-image intel intel-measured array) in
+        by-steps
+        ∙ passed (sized size (length array)) 5 room (holds (decides-sized size array) (h .1))
+        ∙ passed (leb (44 * (size / 16) + 12) (length out)) 19 (accepted (lengthOf intel array)) (holds (decides-le (44 * (size / 16) + 12) (length out)) (h .2))
+        ∙ ap accepted m,
   )
 
   no-other : (k p : ℕ) → writeVerdict intel size array out ≡ refused k p → (k ≡ 5) ⊎ (k ≡ 19)
@@ -109,9 +116,6 @@ write-image =
           Iff·trans (Iff·trans (says-refused r _ 5 p (x .reply)) (five 4096 array out p)) (unsized-4096 array p);
       nineteen = λ array out p r out′ x. Iff·trans (says-refused r _ 19 p (x .reply)) (at-4096 array out p);
       nineteen-sized = λ size array out p r out′ x. Iff·trans (says-refused r _ 19 p (x .reply)) (nineteen size array out p);
-      accepted = λ size array out r out′ x. (
-        λ h. taken size array out .0 (h .0, says-accepted r _ (h .0) (x .reply) .0 (h .1)),
-        λ h. let t = taken size array out .1 h in (t .0, says-accepted r _ (t .0) (x .reply) .1 (t .1)),
-      );
+      accepted = λ size array out n r out′ x. Iff·trans (says-accepted r _ n (x .reply)) (taken size array out n);
       no-other = λ size array out k p r out′ x e. no-other size array out k p (says-refused r _ k p (x .reply) .0 e);
     }

@@ -7,6 +7,7 @@ use mathlib.Core.Path.{_≡_}
 use lib.ListN.{length}
 use Rattle.ground.specs.declared.Reply.{Reply}
 use Rattle.ground.specs.declared.Reply.the-variants.{Accepted, Refused}
+use Rattle.forms.specs.Writing.{imageText}
 use Rattle.intel.specs.Intel.{intel}
 use Rattle.image.specs.Promises.{WritesImage}
 use Rattle.exactly.specs.ReadImage.{Sized}
@@ -24,9 +25,9 @@ pub record WriteImage : Type 0 where
   -- the same at any size: 44 characters for each row of 16 bytes and 12 for the end
   pub nineteen-sized : (size : ℕ) (array out : List ℕ) (p : ℕ) (r : Reply) (out′ : List ℕ) → WritesImage intel size array out r out′
       → (r ≡ Refused 19 p) ↔ ((p ≡ 0) × Sized size array × (length out < 44 * (size / 16) + 12))
-  -- otherwise it is accepted
-  pub accepted : (size : ℕ) (array out : List ℕ) (r : Reply) (out′ : List ℕ) → WritesImage intel size array out r out′
-      → ((n : ℕ) × (r ≡ Accepted n)) ↔ (Sized size array × (44 * (size / 16) + 12 ≤ length out))
+  -- otherwise it is accepted, with the length of the text written
+  pub accepted : (size : ℕ) (array out : List ℕ) (n : ℕ) (r : Reply) (out′ : List ℕ) → WritesImage intel size array out r out′
+      → (r ≡ Accepted n) ↔ ((n ≡ length (imageText intel array)) × Sized size array × (44 * (size / 16) + 12 ≤ length out))
   -- and no other number is given
   pub no-other : (size : ℕ) (array out : List ℕ) (k p : ℕ) (r : Reply) (out′ : List ℕ) → WritesImage intel size array out r out′
       → r ≡ Refused k p → (k ≡ 5) ⊎ (k ≡ 19)

@@ -14,12 +14,12 @@ use Rattle.image.specs.Promises.{imageOf, ReadsImage, WritesImage}
 use Rattle.image_claims.specs.Images.{WriteThenRead, DoorTrip}
 
 -- The reply that says a verdict.
-abbrev replyOf : Verdict → Reply
+abbrev pub replyOf : Verdict → Reply
 replyOf (accepted n) = Accepted n
 replyOf (refused k p) = Refused k p
 
 -- It means that verdict.
-reply-means : (v : Verdict) → meant (replyOf v) ≡ v
+pub reply-means : (v : Verdict) → meant (replyOf v) ≡ v
 unfolding meant
 reply-means (accepted n) = refl
 reply-means (refused k p) = refl
@@ -43,5 +43,5 @@ door-from trip =
           n b x (reply-means (accepted n)) o y
           in
           let t : verdictOf reading (length text) ≡ accepted n = sym (reply-means (verdictOf reading (length text))) ∙ z .reply in
-          (q .kept ∙ rw h (z .same), w .reply ∙ rw (d, v), q .reply ∙ rw (h, t));
+          (w .answer ∙ rw d, q .answer ∙ rw h, q .kept ∙ rw h (z .same), w .reply ∙ rw (d, v), q .reply ∙ rw (h, t));
     }

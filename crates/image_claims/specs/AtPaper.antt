@@ -18,7 +18,7 @@ pub record AtPaper : Type 0 where
   pub door : (out numbers out′ numbers′ old numbers₂ array′ numbers₂′ : List ℕ) (r r₂ : ℕ) → 11276 ≤ length out
       → length numbers ≡ 2 → WritesThrough smallSize paperArray out numbers r out′ numbers′
       → length old ≡ smallSize → length numbers₂ ≡ 2 → ReadsThrough smallSize (take 56 out′) old numbers₂ r₂ array′ numbers₂′
-      → (array′ ≡ paperArray) × (numbers′ ≡ 0 ∷ 56 ∷ []) × (numbers₂′ ≡ 0 ∷ 56 ∷ [])
+      → (r ≡ 1) × (r₂ ≡ 1) × (array′ ≡ paperArray) × (numbers′ ≡ 0 ∷ 56 ∷ []) × (numbers₂′ ≡ 0 ∷ 56 ∷ [])
   pub fixed : Fixed intel 256 paperText
   pub tidied : shownOf smallSize paperText ≡ paperText
   pub twice : (out out′ out₂ out₂′ : List ℕ) (r r₂ : ℕ) → Starts (shownOf smallSize paperText) out r out′

@@ -55,7 +55,7 @@ pub record DoorTrip : Type 0 where
   pub back : (array out numbers out′ numbers′ old numbers₂ array′ numbers₂′ : List ℕ) (r r₂ n : ℕ) → allBytes array ≡ true
       → length numbers ≡ 2 → WritesThrough smallSize array out numbers r out′ numbers′ → writeVerdict intel smallSize array out ≡ accepted n
       → length old ≡ smallSize → length numbers₂ ≡ 2 → ReadsThrough smallSize (take n out′) old numbers₂ r₂ array′ numbers₂′
-      → (array′ ≡ array) × (numbers′ ≡ 0 ∷ n ∷ []) × (numbers₂′ ≡ 0 ∷ n ∷ [])
+      → (r ≡ 1) × (r₂ ≡ 1) × (array′ ≡ array) × (numbers′ ≡ 0 ∷ n ∷ []) × (numbers₂′ ≡ 0 ∷ n ∷ [])
 
 -- The program's habits, for every array of whole rows no larger than a part's (Image files).
 pub record Tidies : Type 0 where
