@@ -4,7 +4,7 @@ use mathlib.Core.Bool.{Bool, true, false}
 use mathlib.Core.Path.{_≡_, refl}
 use native.Mathlib.Omega.{arith}
 use lib.Dec.{eqb, ltb}
-use Rattle.ground.specs.Numbers.{x4323, x4325, pageSize}
+use Rattle.ground.specs.Numbers.{x4323, x4325, x4283, x4285, pageSize}
 use Rattle.ground.specs.Kind.{kindBy, kindOf, known}
 use Rattle.ground.specs.declared.kinds.Kind.{Kind}
 
@@ -17,9 +17,11 @@ pub record Sound (k : Kind) : Type 0 where
 -- Every known part is of such a kind.
 pub kind-sound : (part : ℕ) → known part ≡ true → Sound (kindOf part)
 unfolding kindOf
-kind-sound part e = go (eqb part x4323) (eqb part x4325) e
+kind-sound part e = go (eqb part x4323) (eqb part x4325) (eqb part x4283) (eqb part x4285) e
   where
-    go : (a b : Bool) → ltb 0 (kindBy a b .size) ≡ true → Sound (kindBy a b)
-    go true b e = record { whole = refl; some = omega arith; narrow = omega arith }
-    go false true e = record { whole = refl; some = omega arith; narrow = omega arith }
-    go false false e = let z : _≡_ {A = ℕ} 0 1 = cc in absurd (omega arith)
+    go : (a b c d : Bool) → ltb 0 (kindBy a b c d .size) ≡ true → Sound (kindBy a b c d)
+    go true b c d e = record { whole = refl; some = omega arith; narrow = omega arith }
+    go false true c d e = record { whole = refl; some = omega arith; narrow = omega arith }
+    go false false true d e = record { whole = refl; some = omega arith; narrow = omega arith }
+    go false false false true e = record { whole = refl; some = omega arith; narrow = omega arith }
+    go false false false false e = let z : _≡_ {A = ℕ} 0 1 = cc in absurd (omega arith)

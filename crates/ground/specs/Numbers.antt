@@ -33,9 +33,29 @@ x4323 = 4323
 abbrev pub x4325 : ℕ
 x4325 = 4325
 
+-- The part number of the X4283 (Refusal numbers, 1; request 2026-01).
+abbrev pub x4283 : ℕ
+x4283 = 4283
+
+-- The part number of the X4285 (Refusal numbers, 1; request 2026-01).
+abbrev pub x4285 : ℕ
+x4285 = 4285
+
 -- The array's size of an X4323 and an X4325 (The part on our bench).
 abbrev pub smallSize : ℕ
 smallSize = 4096
+
+-- The array's size of an X4283 and an X4285 (request 2026-01).
+abbrev pub largeSize : ℕ
+largeSize = 16384
+
+-- Where block code 1 begins to lock, on a part on which it does (Control register; request 2026-01).
+abbrev pub fromCodeOne : ℕ
+fromCodeOne = 0x3000
+
+-- Where block code 2 begins to lock, on a part on which it does (Control register; request 2026-01).
+abbrev pub fromCodeTwo : ℕ
+fromCodeTwo = 0x2000
 
 -- The largest device select (Refusal numbers, 2; State and time, ranges).
 abbrev pub mostSelect : ℕ

@@ -7,12 +7,19 @@ pub const X4323: u16 = 4323;
 
 pub const X4325: u16 = 4325;
 
+pub const X4283: u16 = 4283;
+
+pub const X4285: u16 = 4285;
+
 pub const SMALL_SIZE: u16 = 4096;
 
-// The array's size in bytes and the RESET pin's active level. A size of 0 is no part.
+pub const LARGE_SIZE: u16 = 16384;
+
+// The array's size in bytes, the RESET pin's active level, and whether block codes 1 and 2 lock upper blocks. A size of 0 is no part.
 pub struct Kind {
     pub size: u16,
     pub high: bool,
+    pub upper: bool,
 }
 
 pub fn kind_of(part: u16) -> Kind
@@ -22,14 +29,27 @@ pub fn kind_of(part: u16) -> Kind
         X4323 => Kind {
             size: SMALL_SIZE,
             high: false,
+            upper: false,
         },
         X4325 => Kind {
             size: SMALL_SIZE,
             high: true,
+            upper: false,
+        },
+        X4283 => Kind {
+            size: LARGE_SIZE,
+            high: false,
+            upper: true,
+        },
+        X4285 => Kind {
+            size: LARGE_SIZE,
+            high: true,
+            upper: true,
         },
         _ => Kind {
             size: 0,
             high: false,
+            upper: false,
         },
     }
 }

@@ -22,7 +22,7 @@ wpOf level = odd (level / 4)
 abbrev pub vccOf : ℕ → Bool
 vccOf level = odd (level / 8)
 
--- The RESET pin: high when active on an X4325, low when active on an X4323 (What goes in and what comes out).
+-- The RESET pin: high when active where the kind says so, else low (What goes in and what comes out).
 abbrev pub pinBy : Bool → Bool → Bool
 pinBy true reset = reset
 pinBy false reset = not reset

@@ -3,7 +3,12 @@ use ground::kinds::Kind;
 use part::state::PAGE;
 use part::state::Place;
 ghost use mathlib.Core.Path.{_≡_};
-ghost use Rattle.lock.specs.Lock.{blockCode, extentOf, lockedOf};
+ghost use Rattle.lock.specs.Lock.{blockCode, upperFrom, extentOf, lockedOf};
+
+// Where block codes 1 and 2 begin to lock, on a part on which they do.
+const FROM_CODE_ONE: u16 = 0x3000;
+
+const FROM_CODE_TWO: u16 = 0x2000;
 
 // Pages from `from` up to but not including `to`.
 pub struct Extent {
@@ -18,12 +23,27 @@ pub fn block_code(stored: u8) -> u8
     stored % 2 * 4 + stored / 8 % 4
 }
 
+// The pages from a place to the array's end, on a part whose upper blocks are locked at all.
+fn upper_from(kind: Kind, first: u16) -> Extent
+    ensures { λ r. ⌜ r ≡ upperFrom kind first ⌝ }
+{
+    if kind.upper {
+        return Extent {
+            from: first / PAGE,
+            to: kind.size / PAGE,
+        };
+    }
+    Extent { from: 0, to: 0 }
+}
+
 // The pages that a block code locks.
 pub fn extent_of(kind: Kind, code: u8) -> Extent
     ensures { λ r. ⌜ r ≡ extentOf kind code ⌝ }
 {
     match code {
-        0..=2 => Extent { from: 0, to: 0 },
+        0 => Extent { from: 0, to: 0 },
+        1 => upper_from(kind, FROM_CODE_ONE),
+        2 => upper_from(kind, FROM_CODE_TWO),
         3 => Extent {
             from: 0,
             to: kind.size / PAGE,

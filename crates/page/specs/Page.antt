@@ -15,7 +15,7 @@ use Rattle.part.specs.declared.state.Place.{Place}
 abbrev pub at : ℕ → Place
 at n = record { 0 = n }
 
--- The array place of a bus address: its low 12 bits, where the array has 4,096 bytes (Bytes on the wire, write).
+-- The array place of a bus address: as many of its low bits as places of that array have, 12 or 14 (Bytes on the wire, write; request 2026-01).
 abbrev pub placeOf : Kind → BusAddress → Place
 placeOf k a = at (a .0 % k .size)
 

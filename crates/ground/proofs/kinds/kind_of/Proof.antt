@@ -1,4 +1,4 @@
--- `ground::kinds::kind_of` meets its contract: each arm's number decides the two tests of `kindOf`.
+-- `ground::kinds::kind_of` meets its contract: each arm's number decides the tests of `kindOf`.
 use borrow.Author.Tests.{eq-eqb, ne-eqb}
 use Rattle.ground.specs.Kind.{kindOf}
 use Rattle.ground.proofs.kinds.kind_of.Statement.{statement}
@@ -14,7 +14,15 @@ returns-2 c = rw (c .match .keys2)
 
 returns-3 : tie.Need-returns-3
 unfolding kindOf
-returns-3 c = rw (ne-eqb _ _ (c .match .rest .0 .1), ne-eqb _ _ (c .match .rest .1))
+returns-3 c = rw (c .match .keys3)
+
+returns-4 : tie.Need-returns-4
+unfolding kindOf
+returns-4 c = rw (c .match .keys4)
+
+returns-5 : tie.Need-returns-5
+unfolding kindOf
+returns-5 c = rw (ne-eqb _ _ (c .match .rest .0 .0 .0 .1), ne-eqb _ _ (c .match .rest .0 .0 .1), ne-eqb _ _ (c .match .rest .0 .1), ne-eqb _ _ (c .match .rest .1))
 
 pub kind-of-spec : {M : Type 1} → statement M
-kind-of-spec = tie.close (tie.spec returns returns-2 returns-3)
+kind-of-spec = tie.close (tie.spec returns returns-2 returns-3 returns-4 returns-5)
