@@ -3,7 +3,7 @@
 use Rattle.run_cases.proofs.RunCases.{p1, p5, p6, p7, p8, p9}
 use Rattle.lock_cases.proofs.LockCases.{p2, p3, p4, p4-larger, s10, s11, s12, s13, s24}
 use Rattle.sheet_cases.proofs.ReadCases.{s1, s2, s3, s25, s26}
-use Rattle.sheet_cases.proofs.WatchCases.{s4, s5}
+use Rattle.sheet_cases.proofs.WatchCases.{s4, s5, s28}
 use Rattle.sheet_cases.proofs.LatchCases.{s6, s7, s8, s9}
 use Rattle.sheet_cases.proofs.BlockCases.{s14, s27}
 use Rattle.talk_cases.proofs.ResetCases.{s15, s16, s17, s18}
@@ -54,4 +54,5 @@ bench-cases =
       s25 = s25;
       s26 = s26;
       s27 = s27;
+      s28 = s28;
     }
