@@ -1,7 +1,7 @@
 -- The bench cases of the block lock: which places a code locks, and that a data byte there is left without acknowledge and is not kept. For
 -- every kind of part where a code locks the same pages of each; else by the kind's size and upper blocks, once for parts that share them. No
 -- axiom is used.
-use Prim.Native.Nat.{ℕ}
+use Prim.Native.Nat.{ℕ, _<_, _*_}
 use mathlib.Core.Bool.{Bool, true, false, not}
 use mathlib.Core.Path.{_≡_, refl}
 use native.Mathlib.Omega.{arith}
@@ -75,16 +75,23 @@ smaller part s u = (
 )
 
 -- A kind of 16,384 bytes with them: code 1 locks from 3000h on, 2 from 2000h on, 3 everything.
-larger : (part : ℕ) → kindOf part .size ≡ 0x4000 → kindOf part .upper ≡ true → P4Larger part
-unfolding extentOf
-larger part s u =
-    let first = λ (place : ℕ) (b : Bool). by-extent (kindOf part) 1 place (record { from = 192; to = 256 }) b (rw (u, s)) in
-    let second = λ (place : ℕ) (b : Bool). by-extent (kindOf part) 2 place (record { from = 128; to = 256 }) b (rw (u, s)) in
-    record {
-      one = (first 0x3000 true refl, first 0x3FFF true refl, first 0x2FFF false refl);
-      two = (second 0x2000 true refl, second 0x3FFF true refl, second 0x1FFF false refl);
-      three = λ place h. by-extent (kindOf part) 3 place (firstPages 256) true (rw s) (in-all 256 place h);
-    }
+module _ (part : ℕ) (s : kindOf part .size ≡ 0x4000) (u : kindOf part .upper ≡ true) where
+  first : (place : ℕ) (b : Bool) → inExtent (record { from = 192; to = 256 }) (pageOf (at place)) ≡ b → Locks (kindOf part) 1 place b
+  unfolding extentOf
+  first place b h = by-extent (kindOf part) 1 place (record { from = 192; to = 256 }) b (rw (u, s)) h
+
+  second : (place : ℕ) (b : Bool) → inExtent (record { from = 128; to = 256 }) (pageOf (at place)) ≡ b → Locks (kindOf part) 2 place b
+  unfolding extentOf
+  second place b h = by-extent (kindOf part) 2 place (record { from = 128; to = 256 }) b (rw (u, s)) h
+
+  larger : P4Larger part
+  unfolding extentOf
+  larger =
+      record {
+        one = (first 0x3000 true refl, first 0x3FFF true refl, first 0x2FFF false refl);
+        two = (second 0x2000 true refl, second 0x3FFF true refl, second 0x1FFF false refl);
+        three = λ place h. by-extent (kindOf part) 3 place (firstPages 256) true (rw s) (in-all 256 place h);
+      }
 
 -- P4: code 2 locks nothing of the smaller parts.
 pub p4 : P4 4323 × P4 4325
