@@ -29,5 +29,4 @@ occurs =
       held = (refl, refl);
       far = set-equal-but (replicate (kindOf x4283 .size) 0xFF) farSpot 0x4C 0x5C;
       far-read = record { taken = refl; reached = refl; differ = refl; covered = refl; demanded = refl };
-      far-write = record { taken = refl; reached = refl; differ = refl; covered = refl; demanded = refl };
     }

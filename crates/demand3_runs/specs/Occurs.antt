@@ -64,21 +64,17 @@ readIt = readAt spot
 abbrev pub readOther : Capture
 readOther = readAt 0x0346
 
--- A byte is sent to an address, and after the write time the address is read (Bytes on the wire, array data, stop, read).
-abbrev pub writeAndRead : ℕ → List Capture
-writeAndRead a = brisk (pageWrite 0 a (0x77 ∷ [])) ∷ wait writeTime ∷ brisk (readFrom 0 a 1) ∷ []
+-- A byte is sent to the address, and after the write time the address is read (Bytes on the wire, array data, stop, read).
+abbrev pub writeAndRead : List Capture
+writeAndRead = brisk (pageWrite 0 spot (0x77 ∷ [])) ∷ wait writeTime ∷ brisk (readFrom 0 spot 1) ∷ []
 
 -- That with WEL low, so that the byte is withheld (Bytes on the wire, array data).
 abbrev pub unsetWrite : Capture
-unsetWrite = joined (awake ++ writeAndRead spot)
+unsetWrite = joined (awake ++ writeAndRead)
 
--- That with WEL set, at an address (Control register, RWEL low).
-abbrev pub setWriteAt : ℕ → Capture
-setWriteAt a = joined (awake ++ brisk (registerWrite 0 0x02) ∷ writeAndRead a)
-
--- That at the address (Control register, RWEL low).
+-- That with WEL set (Control register, RWEL low).
 abbrev pub setWrite : Capture
-setWrite = setWriteAt spot
+setWrite = joined (awake ++ brisk (registerWrite 0 0x02) ∷ writeAndRead)
 
 -- So many samples into that capture the byte has been fetched and its second bit is out.
 abbrev pub partWay : ℕ
@@ -90,7 +86,7 @@ midway p = record { state = afterCapture (upTo partWay readIt) left .state; arra
 
 -- Another address is read, then the address is covered, with WEL set (Bytes on the wire, array data, stop, read).
 abbrev pub readThenWrite : Capture
-readThenWrite = joined (awake ++ brisk (readFrom 0 0x0346 1) ∷ brisk (registerWrite 0 0x02) ∷ writeAndRead spot)
+readThenWrite = joined (awake ++ brisk (readFrom 0 0x0346 1) ∷ brisk (registerWrite 0 0x02) ∷ writeAndRead)
 
 -- The read cut off after its third bit: the byte of the address is being sent, and only equal bits have been out.
 abbrev pub cutRead : Capture
@@ -142,7 +138,6 @@ pub record Occurs : Type 0 where
   -- cut off before the unequal bit, the states differ in the byte being sent, and in nothing else by demand 3
   pub cut : RunsTo left right cutRead never never
   pub held : (stillHeld left cutRead ≡ 0x30) × (stillHeld right cutRead ≡ 0x70)
-  -- of the larger part, above 0FFFh: read, and written before
+  -- of the larger part, above 0FFFh
   pub far : EqualBut farSpot (farLeft .array) (farRight .array)
   pub far-read : RunsAt farSpot farLeft farRight (readAt farSpot) (sample 126) never
-  pub far-write : RunsAt farSpot farLeft farRight (setWriteAt farSpot) never (sample 230)
