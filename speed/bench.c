@@ -59,7 +59,7 @@ static int write_input(const struct job *job)
     if (job->operation == READ)
         fwrite(input.text, 1, input.length[0], stdout);
     else
-        fwrite(input.arrays[0], 1, ARRAY_BYTES, stdout);
+        fwrite(input.arrays, 1, input.kind->bytes, stdout);
     return 0;
 }
 
@@ -152,6 +152,14 @@ static void print_head(const char *title)
            "ratio", "proved", "C", "ratio");
 }
 
+/* Rows by name, with nothing judged. */
+static void print_rows(const char *title, const char *const names[], size_t count, bool by_time)
+{
+    print_head(title);
+    for (size_t i = 0; i < count; i++)
+        print_row(job_named(names[i]), by_time, false);
+}
+
 static bool print_c_quality(void)
 {
     double c = rows[job_named("mix") - jobs].instructions[PLAIN_C];
@@ -167,7 +175,8 @@ static bool print_c_quality(void)
 
 static int table(unsigned rounds, bool by_time, const char *counts)
 {
-    static const char *growth[] = {"mix-4k", "mix-16k", "mix", "read-1k", "read-4k", "read-16k", "read-64k"};
+    static const char *const growth[] = {"mix-4k", "mix-16k", "mix", "read-1k", "read-4k", "read-16k", "read-64k"};
+    static const char *const larger[] = {"mix", "mix-larger", "read-full", "read-larger", "write-full", "write-larger"};
     bool ok = true;
 
     measure(rounds, by_time, counts == NULL && can_count());
@@ -179,9 +188,8 @@ static int table(unsigned rounds, bool by_time, const char *counts)
     for (int i = 0; i < JOBS; i++)
         if (jobs[i].bar > 0)
             ok &= print_row(&jobs[i], by_time, true);
-    print_head("How cost grows (the same figures by size)");
-    for (unsigned i = 0; i < sizeof growth / sizeof growth[0]; i++)
-        print_row(job_named(growth[i]), by_time, false);
+    print_rows("How cost grows (the same figures by size)", growth, sizeof growth / sizeof growth[0], by_time);
+    print_rows("The larger part (16,384 bytes) beside the smaller", larger, sizeof larger / sizeof larger[0], by_time);
     ok &= print_c_quality();
     printf("%s\n", ok ? "every bar holds" : "FAIL: a bar is missed");
     return !ok;

@@ -16,7 +16,17 @@ static void page_write(struct master *m, uint16_t address, size_t count)
 
 static uint16_t some_address(struct master *m)
 {
-    return (uint16_t)master_random(m, 4096);
+    return (uint16_t)master_random(m, m->places);
+}
+
+/* An address near the place where a locked block begins or ends: in the two pages before a quarter of the array or in the sixteen
+ * from there on. It may have bits above the array's. */
+static uint16_t edge_address(struct master *m)
+{
+    uint32_t quarter = m->places / 4 * master_random(m, 4), near = master_random(m, 18 * 64) + m->places - 2 * 64;
+    uint32_t above = m->places * master_random(m, 65536 / m->places);
+
+    return (uint16_t)(above + (quarter + near) % m->places);
 }
 
 /* One transaction of the mix. Writes are one in four, since each brings its polling with it. */
@@ -104,7 +114,7 @@ void capture_edges(struct master *m)
 /* A rough turn is meant to reach every branch of the rules, not to be likely. */
 static void rough_turn(struct master *m, uint8_t own_select)
 {
-    static const uint8_t register_bytes[] = {0x02, 0x06, 0x00, 0x63, 0x02, 0x06, 0x12, 0x1A, 0x83, 0x67, 0x9B, 0x22};
+    static const uint8_t register_bytes[] = {0x02, 0x06, 0x00, 0x63, 0x02, 0x06, 0x12, 0x1A, 0x0A, 0x83, 0x67, 0x9B, 0x22};
     uint8_t select = master_random(m, 8) ? own_select : (uint8_t)master_random(m, 4);
 
     switch (master_random(m, 16)) {
@@ -128,7 +138,7 @@ static void rough_turn(struct master *m, uint8_t own_select)
             master_idle(m, master_random(m, 16), master_random(m, 100001));
         break;
     case 4: /* a byte broken off */
-        master_address(m, select, (uint16_t)master_random(m, 4096));
+        master_address(m, select, some_address(m));
         for (unsigned i = master_random(m, 20); i > 0; i--)
             master_bit(m, (uint8_t)master_random(m, 2));
         if (master_random(m, 2))
@@ -153,15 +163,15 @@ static void rough_turn(struct master *m, uint8_t own_select)
         master_read(m, select, 1 + master_random(m, 3));
         break;
     case 11:
-    case 12: /* addresses with bits above the array's, and near the locked blocks' ends */
-        master_address(m, select, (uint16_t)(master_random(m, 2) << 12 | (master_random(m, 16) * 64 + master_random(m, 64))));
+    case 12:
+        master_address(m, select, edge_address(m));
         data_bytes(m, master_random(m, 80));
         master_stop(m);
         if (master_random(m, 2))
             master_idle(m, 1, 4990 + master_random(m, 20));
         break;
     case 13:
-        master_address(m, select, (uint16_t)(master_random(m, 2) ? 0x0FFF : master_random(m, 65536)));
+        master_address(m, select, (uint16_t)(master_random(m, 2) ? m->places - 1 : master_random(m, 65536)));
         master_read(m, select, 1 + master_random(m, 6));
         break;
     case 14:
