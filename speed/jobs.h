@@ -44,12 +44,12 @@ enum { MOST_CALLS = 64 };
 struct input {
     const struct job *job;
     const struct kind *kind; /* of the job's part */
-    size_t calls, units; /* units of all calls: samples, text bytes or array bytes, what a cost is divided by */
+    size_t calls, units;     /* units of all calls: samples, text bytes or array bytes, what a cost is divided by */
     size_t length[MOST_CALLS];
     uint32_t elapsed[MOST_SAMPLES];
     uint8_t levels[MOST_SAMPLES];
     uint8_t text[MOST_TEXT];
-    uint8_t arrays[MOST_SAMPLES]; /* a writer's; a replay takes the first each time */
+    uint8_t arrays[MOST_SAMPLES]; /* a writer's, one after the other; a replay takes the first each time */
 };
 
 /* Everything that a call may change, with room for every part; a call is lent no more of it than its own part has. */
