@@ -213,6 +213,26 @@ bool agree_on_refusals(void)
     return ok;
 }
 
+bool agree_on_blocks(void)
+{
+    enum { CODES = 8 };
+    struct master m;
+    bool ok = true;
+
+    for (unsigned i = 0; i < KINDS * CODES; i++) {
+        const struct kind *kind = &kinds[i / CODES];
+        struct call c = sound(kind);
+        unsigned code = i % CODES;
+        fill_array(array, kind->bytes, 1, 1);
+        master_begin(&m, elapsed, levels, MOST_SAMPLES, kind->bytes, 1);
+        capture_places(&m);
+        c.elapsed_len = c.levels_len = c.answers_len = m.length;
+        c.stored = (uint8_t)(0x60 | (code & 3) << 3 | code >> 2);
+        ok &= agree("a block code", REPLAY, &c, 0);
+    }
+    return ok;
+}
+
 static bool agree_on_rough_captures(void)
 {
     enum { CAPTURES = 800, LENGTH = 6000 };

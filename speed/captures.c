@@ -19,14 +19,16 @@ static uint16_t some_address(struct master *m)
     return (uint16_t)master_random(m, m->places);
 }
 
-/* An address near the place where a locked block begins or ends: in the two pages before a quarter of the array or in the sixteen
- * from there on. It may have bits above the array's. */
-static uint16_t edge_address(struct master *m)
+/* The start of a quarter of the array, or of its second, third, fifth or ninth page: where a locked block may begin or end. */
+static uint32_t edge(const struct master *m, uint32_t which)
 {
-    uint32_t quarter = m->places / 4 * master_random(m, 4), near = master_random(m, 18 * 64) + m->places - 2 * 64;
-    uint32_t above = m->places * master_random(m, 65536 / m->places);
+    return which < 4 ? m->places / 4 * which : 64u << (which - 4);
+}
 
-    return (uint16_t)(above + (quarter + near) % m->places);
+/* An address of this place, with `above` in the bits that the array has no use for. */
+static uint16_t address_of(const struct master *m, uint32_t place, uint32_t above)
+{
+    return (uint16_t)(above * m->places + place % m->places);
 }
 
 /* One transaction of the mix. Writes are one in four, since each brings its polling with it. */
@@ -111,6 +113,20 @@ void capture_edges(struct master *m)
         master_lines(m, 1, !m->sda, 4);
 }
 
+void capture_places(struct master *m)
+{
+    master_end_reset(m);
+    master_register(m, 0, 0x02);
+    for (uint32_t which = 0; which < 8; which++)
+        for (uint32_t before = 0; before < 2; before++)
+            for (uint32_t above = 0; above < 2; above++) {
+                uint16_t address = address_of(m, edge(m, which) + m->places - before, above);
+                page_write(m, address, 1);
+                master_address(m, 0, address);
+                master_read(m, 0, 2);
+            }
+}
+
 /* A rough turn is meant to reach every branch of the rules, not to be likely. */
 static void rough_turn(struct master *m, uint8_t own_select)
 {
@@ -163,8 +179,8 @@ static void rough_turn(struct master *m, uint8_t own_select)
         master_read(m, select, 1 + master_random(m, 3));
         break;
     case 11:
-    case 12:
-        master_address(m, select, edge_address(m));
+    case 12: /* up to two pages before an edge */
+        master_address(m, select, address_of(m, edge(m, master_random(m, 8)) + m->places - master_random(m, 128), master_random(m, 4)));
         data_bytes(m, master_random(m, 80));
         master_stop(m);
         if (master_random(m, 2))
