@@ -17,6 +17,16 @@ struct image {
     bool given[LARGER];
 };
 
+/* Here as in copying, pieces of a length that the compiler knows cost fewer instructions than one of a length that it does not. */
+static void clear(struct image *image, size_t bytes)
+{
+    image->bytes = bytes;
+    for (size_t at = 0; at < bytes; at += SMALLER) {
+        memset(image->cells + at, 0xFF, SMALLER);
+        memset(image->given + at, 0, SMALLER);
+    }
+}
+
 static int digit(uint8_t c)
 {
     if (c >= '0' && c <= '9')
@@ -127,12 +137,11 @@ uint8_t cimage_read(uint16_t part, const uint8_t *text, size_t text_len, uint8_t
     reply[1] = 0;
     if (reply[0] != 0)
         return 1;
-    image.bytes = kind->bytes;
-    memset(image.cells, 0xFF, image.bytes);
-    memset(image.given, 0, image.bytes);
+    clear(&image, kind->bytes);
     reply[0] = read_text(text, text_len, &image, &reply[1]);
     if (reply[0] == 0) {
-        memcpy(array, image.cells, image.bytes);
+        for (size_t at = 0; at < image.bytes; at += SMALLER)
+            memcpy(array + at, image.cells + at, SMALLER);
         reply[1] = text_len;
     }
     return 1;
@@ -172,11 +181,18 @@ static bool blank(const uint8_t *row)
     return all == 0xFF;
 }
 
+static uint8_t *put_image(uint8_t *out, const uint8_t *array, size_t bytes)
+{
+    for (size_t row = 0; row < bytes; row += ROW_BYTES)
+        if (!blank(array + row))
+            out = put_record(out, (unsigned)row, DATA, array + row, ROW_BYTES);
+    return put_record(out, 0, END, NULL, 0);
+}
+
 uint8_t cimage_write(uint16_t part, const uint8_t *array, size_t array_len, uint8_t *out, size_t out_len,
                      uint64_t *reply, size_t reply_len)
 {
     const struct kind *kind = kind_of(part);
-    uint8_t *end = out;
 
     if (reply_len != 2)
         return 0;
@@ -186,10 +202,6 @@ uint8_t cimage_write(uint16_t part, const uint8_t *array, size_t array_len, uint
         reply[0] = 19;
     if (reply[0] != 0)
         return 1;
-    for (unsigned row = 0; row < kind->bytes; row += ROW_BYTES)
-        if (!blank(array + row))
-            end = put_record(end, row, DATA, array + row, ROW_BYTES);
-    end = put_record(end, 0, END, NULL, 0);
-    reply[1] = (uint64_t)(end - out);
+    reply[1] = (uint64_t)(put_image(out, array, kind->bytes) - out);
     return 1;
 }
