@@ -31,6 +31,15 @@ static uint16_t address_of(const struct master *m, uint32_t place, uint32_t abov
     return (uint16_t)(above * m->places + place % m->places);
 }
 
+/* At an edge or up to two pages before it. */
+static uint16_t near_edge(struct master *m)
+{
+    uint32_t place = edge(m, master_random(m, 8)) + m->places;
+
+    place -= master_random(m, 128);
+    return address_of(m, place, master_random(m, 4));
+}
+
 /* One transaction of the mix. Writes are one in four, since each brings its polling with it. */
 static void mixed(struct master *m)
 {
@@ -179,8 +188,8 @@ static void rough_turn(struct master *m, uint8_t own_select)
         master_read(m, select, 1 + master_random(m, 3));
         break;
     case 11:
-    case 12: /* up to two pages before an edge */
-        master_address(m, select, address_of(m, edge(m, master_random(m, 8)) + m->places - master_random(m, 128), master_random(m, 4)));
+    case 12:
+        master_address(m, select, near_edge(m));
         data_bytes(m, master_random(m, 80));
         master_stop(m);
         if (master_random(m, 2))

@@ -7,15 +7,17 @@
 #include <qillampu.h>
 #include <string.h>
 
+enum { END_LINE = 12 }; /* bytes of a text that is an end record alone */
+
 const struct side sides[SIDES] = {
     {"proved", qillampu_replay, qillampu_read_image, qillampu_write_image},
     {"C", ctwin_replay, cimage_read, cimage_write},
 };
 
 /* 60h stores WD 11, watchdog off; 00h its longest time.
- * The bars on instructions of the two shortest reads are there so that the smaller part does not pay for the larger one: for each
- * call a reader clears and copies its cells, and one that did so with 16,384 of them for a part of 4,096 would miss both bars. The
- * C reader takes the part's own cells only. */
+ * For each call a reader clears and copies its cells. That the smaller part does not pay for the larger one's is shown by reading
+ * an image of no data on either (`read-none`, see bench.c), and watched by the bars on instructions of the two shortest reads: one
+ * that took 16,384 cells for a part of 4,096 would miss them. The C reader takes the part's own cells only. */
 const struct job jobs[JOBS] = {
     {"mix", "mix", REPLAY, 4323, 65536, 1.0, 0.80, 0x60, capture_mix, 0},
     {"watchdog", "mix, watchdog on", REPLAY, 4323, 65536, 1.0, 0.80, 0x00, capture_mix, 0},
@@ -37,6 +39,8 @@ const struct job jobs[JOBS] = {
     {"mix-larger", "mix, larger part", REPLAY, 4283, 65536, 0, 0, 0x60, capture_mix, 0},
     {"read-larger", "read 45 KB, larger part", READ, 4283, LARGER_TEXT, 0, 0, 0, NULL, 16},
     {"write-larger", "write a full larger array", WRITE, 4283, LARGER, 0, 0, 0, NULL, 1},
+    {"read-none", "read no data", READ, 4323, END_LINE, 0, 0, 0, NULL, 16},
+    {"read-none-larger", "read no data, larger part", READ, 4283, END_LINE, 0, 0, 0, NULL, 16},
 };
 
 const struct job *job_named(const char *name)
@@ -77,6 +81,8 @@ void make_input(struct input *input, const struct job *job)
     input->job = job;
     input->kind = kind_of(job->part);
     input->calls = MOST_SAMPLES / job->size;
+    if (input->calls > MOST_CALLS)
+        input->calls = MOST_CALLS;
     input->units = 0;
     fill_array(input->arrays, input->kind->bytes, 1, 1);
     for (size_t call = 0; call < input->calls; call++)

@@ -1,6 +1,6 @@
 /* What is measured: each job is calls of one operation, done by either side on the same input.
- * A short job is as many calls as make up some 65,536 units, each on an input of its own: one input again and again would be learnt
- * by the processor's branch predictor, and the short jobs would look cheaper than they are. */
+ * A short job is as many calls as make up some 65,536 units, at most 64, each on an input of its own: one input again and again
+ * would be learnt by the processor's branch predictor, and the short jobs would look cheaper than they are. */
 #ifndef JOBS_H
 #define JOBS_H
 
@@ -35,7 +35,7 @@ struct job {
     unsigned shape;   /* read: bytes a record; write: every how many rows one holds bytes */
 };
 
-enum { JOBS = 20 };
+enum { JOBS = 22 };
 extern const struct job jobs[JOBS];
 
 enum { MOST_CALLS = 64 };
