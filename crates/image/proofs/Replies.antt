@@ -109,23 +109,24 @@ module _ (form : Form) (part : ℕ) (kind : Kind) (e : kind ≡ kindOf part) whe
         let b = other array n in
         record { reply = rw (a, b); said = rw (a, b) }
 
-    pub refuses-room : (kind .size ≡ 0 → ⊥) → length array ≡ kind .size → length out < mostLength form (kind .size)
+    pub refuses-room : (m : ℕ) → (kind .size ≡ 0 → ⊥) → length array ≡ kind .size → m ≡ mostLength form (kind .size) → length out < m
         → WritesImage form part array out (Refused 19 0) out
     unfolding writeVerdict meant
-    refuses-room h s l =
+    refuses-room m h s e l =
         let a = some h in
         let b = same array s in
-        let m : length out < mostLength form (kindOf part .size) = rw found at l in
-        let c = lt-leb (mostLength form (kindOf part .size)) (length out) m in
+        let f : m ≡ mostLength form (kindOf part .size) = e ∙ ap (mostLength form) found in
+        let c = lt-leb (mostLength form (kindOf part .size)) (length out) (rw (← f) l) in
         record { reply = rw (a, b, c); said = rw (a, b, c) }
 
-    pub writes : Measured form → {r : ℕ} {out′ : List ℕ} → (kind .size ≡ 0 → ⊥) → length array ≡ kind .size
-        → mostLength form (kind .size) ≤ length out → PutsRows form array out r out′ → WritesImage form part array out (Accepted r) out′
+    pub writes : Measured form → {r : ℕ} {out′ : List ℕ} (m : ℕ) → (kind .size ≡ 0 → ⊥) → length array ≡ kind .size
+        → m ≡ mostLength form (kind .size) → m ≤ length out → PutsRows form array out r out′
+        → WritesImage form part array out (Accepted r) out′
     unfolding writeVerdict meant
-    writes d h s l p =
+    writes d m h s e l p =
         let a = some h in
         let b = same array s in
-        let m : mostLength form (kindOf part .size) ≤ length out = rw found at l in
-        let c = le-leb (mostLength form (kindOf part .size)) (length out) m in
-        let n : mostLength form (length array) ≤ length out = rw s l in
+        let f : m ≡ mostLength form (kindOf part .size) = e ∙ ap (mostLength form) found in
+        let c = le-leb (mostLength form (kindOf part .size)) (length out) (rw (← f) l) in
+        let n : mostLength form (length array) ≤ length out = rw (s, ← e) l in
         record { reply = rw (a, b, c, p .next); said = rw (a, b, c) (p .said ∙ image-laid form d array out n) }

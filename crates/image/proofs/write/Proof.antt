@@ -23,8 +23,7 @@ lines-length-requires c κs = search needs
 
 returns-3 : tie.Need-returns-3
 returns-3 c =
-    let l = c .before .lines-length .ensures in
-    refuses-room _ _ _ (c .before .before .before .before .before .before .kind-of .ensures) _ _ (c .before .before .before .before .if1 .left) (c .before .before .if2 .left) (rw (← l) (c .if3 .taken))
+    refuses-room _ _ _ (c .before .before .before .before .before .before .kind-of .ensures) _ _ _ (c .before .before .before .before .if1 .left) (c .before .before .if2 .left) (c .before .lines-length .ensures) (c .if3 .taken)
 
 put-rows-requires : tie.Need-put-rows-requires
 put-rows-requires c κs =
@@ -38,8 +37,7 @@ same-length c = search needs
 returns-4 : tie.Need-returns-4
 returns-4 c =
     let start = c .before .before .before .before .before .before .before .before .before .before .before .before .before in
-    let l = c .before .before .before .before .before .lines-length .ensures in
-    writes _ _ _ (c .before .before .before .before .before .before .before .before .before .before .kind-of .ensures) _ _ (measured (start .args .format)) (c .before .before .before .before .before .before .before .before .if1 .left) (c .before .before .before .before .before .before .if2 .left) (rw (← l) (c .before .before .before .before .if3 .left)) (c .before .before .put-rows .ensures)
+    writes _ _ _ (c .before .before .before .before .before .before .before .before .before .before .kind-of .ensures) _ _ (measured (start .args .format)) _ (c .before .before .before .before .before .before .before .before .if1 .left) (c .before .before .before .before .before .before .if2 .left) (c .before .before .before .before .before .lines-length .ensures) (c .before .before .before .before .if3 .left) (c .before .before .put-rows .ensures)
 
 pub write-spec : {M : Type 1} → statement M
 write-spec =
