@@ -3,79 +3,122 @@
 use formats::Format;
 use ground::kinds;
 ghost use mathlib.Core.Path.{_≡_};
+ghost use Prim.Native.Nat.{_≤_};
+ghost use lib.ListN.{length, replicate};
+ghost use Rattle.ground.specs.Numbers.{smallSize, largeSize};
+ghost use Rattle.cells.specs.Cells.{notGiven};
+ghost use Rattle.reader.specs.Parts.{ReadsInto};
 ghost use Rattle.intel.specs.Intel.{intel};
 ghost use Rattle.formats.specs.Formats.{formOf};
-ghost use Rattle.image.specs.Promises.{sized, ReadsImage, WritesImage};
+ghost use Rattle.image.specs.Promises.{ReadsImage, WritesImage};
 pub use ground::Reply;
 
-// The size of the largest kind of part: there is room for no larger array.
-pub const LARGEST: usize = kinds::SMALL_SIZE as usize;
+// The sizes of the smaller and the larger kind of part.
+const SMALLER: usize = kinds::SMALL_SIZE as usize;
 
-// The longest fixed form of such an array in Intel's form.
+pub const LARGEST: usize = kinds::LARGE_SIZE as usize;
+
+// The longest fixed form of the larger kind's array in Intel's form.
 pub const LONGEST: usize = intel_rows::ROW_LENGTH * (LARGEST / forms::ROW) + intel_rows::END_LENGTH;
 
 // The longest text that is read.
 pub const MOST_TEXT: usize = 65_536;
 
-// Whether an array of a length has the size named, and there is room for it.
-fn is_sized(size: usize, length: usize) -> bool
-    ensures { λ r. ⌜ r ≡ sized size length ⌝ }
+// Reads a text over cells of which none is given, as many as the array has bytes. There is room for the cells of the smaller kind.
+fn read_small(format: Format, text: &[u8], array: &mut [u8]) -> Reply
+    requires { ⌜ length (now text) ≤ 65536 ⌝ }
+    requires { ⌜ length (now array) ≤ smallSize ⌝ }
+    ensures { λ r. ⌜ ReadsInto (formOf format) (now (text .entry)) (replicate (length (now (array .entry))) notGiven) (now (array .entry)) r (now (array .exit)) ⌝ }
 {
-    if length == size {
-        return size <= LARGEST;
-    }
-    false
+    let mut cells = [cells::NOT_GIVEN; SMALLER];
+    reader::read_over(format, text, &mut cells, array)
 }
 
-// Reads an image of a form into an array of a size, or refuses it with 5 or 11 to 18 and leaves the array alone.
-fn read(format: Format, size: usize, text: &[u8], array: &mut [u8]) -> Reply
-    ensures { λ r. ⌜ ReadsImage (formOf format) size (now (text .entry)) (now (array .entry)) r (now (array .exit)) ⌝ }
+// The same, with room for the cells of the larger kind.
+fn read_large(format: Format, text: &[u8], array: &mut [u8]) -> Reply
+    requires { ⌜ length (now text) ≤ 65536 ⌝ }
+    requires { ⌜ length (now array) ≤ largeSize ⌝ }
+    ensures { λ r. ⌜ ReadsInto (formOf format) (now (text .entry)) (replicate (length (now (array .entry))) notGiven) (now (array .entry)) r (now (array .exit)) ⌝ }
 {
-    if is_sized(size, array.len()) {
-        if text.len() > MOST_TEXT {
-            return Reply::Refused {
-                number: 11,
-                place: 0,
-            };
-        }
-        let mut cells = [cells::NOT_GIVEN; LARGEST];
-        return reader::read_over(format, text, &mut cells, array);
-    }
-    Reply::Refused {
-        number: 5,
-        place: 0,
-    }
+    let mut cells = [cells::NOT_GIVEN; LARGEST];
+    reader::read_over(format, text, &mut cells, array)
 }
 
-// Writes an array of a size in the fixed form at the start of `out`, or refuses with 5 or 19 and leaves it alone.
-fn write(format: Format, size: usize, array: &[u8], out: &mut [u8]) -> Reply
-    ensures { λ r. ⌜ WritesImage (formOf format) size (now (array .entry)) (now (out .entry)) r (now (out .exit)) ⌝ }
+// The same, with as much room as the array needs.
+fn read_fresh(format: Format, text: &[u8], array: &mut [u8]) -> Reply
+    requires { ⌜ length (now text) ≤ 65536 ⌝ }
+    requires { ⌜ length (now array) ≤ largeSize ⌝ }
+    ensures { λ r. ⌜ ReadsInto (formOf format) (now (text .entry)) (replicate (length (now (array .entry))) notGiven) (now (array .entry)) r (now (array .exit)) ⌝ }
 {
-    if is_sized(size, array.len()) {
-        if out.len() < formats::lines_length(format, size / forms::ROW) {
-            return Reply::Refused {
-                number: 19,
-                place: 0,
-            };
-        }
-        return Reply::Accepted(writer::put_rows(format, array, out));
+    if array.len() <= SMALLER {
+        return read_small(format, text, array);
     }
-    Reply::Refused {
-        number: 5,
-        place: 0,
+    read_large(format, text, array)
+}
+
+// Reads an image of a form into the array of a part, or refuses it with 1, 5 or 11 to 18 and leaves the array alone.
+fn read(format: Format, part: u16, text: &[u8], array: &mut [u8]) -> Reply
+    ensures { λ r. ⌜ ReadsImage (formOf format) part (now (text .entry)) (now (array .entry)) r (now (array .exit)) ⌝ }
+{
+    let kind = kinds::kind_of(part);
+    if kind.size == 0 {
+        return Reply::Refused {
+            number: 1,
+            place: 0,
+        };
     }
+    if array.len() != kind.size as usize {
+        return Reply::Refused {
+            number: 5,
+            place: 0,
+        };
+    }
+    if text.len() > MOST_TEXT {
+        return Reply::Refused {
+            number: 11,
+            place: 0,
+        };
+    }
+    read_fresh(format, text, array)
+}
+
+// Writes the array of a part in the fixed form at the start of `out`, or refuses with 1, 5 or 19 and leaves it alone.
+fn write(format: Format, part: u16, array: &[u8], out: &mut [u8]) -> Reply
+    ensures { λ r. ⌜ WritesImage (formOf format) part (now (array .entry)) (now (out .entry)) r (now (out .exit)) ⌝ }
+{
+    let kind = kinds::kind_of(part);
+    if kind.size == 0 {
+        return Reply::Refused {
+            number: 1,
+            place: 0,
+        };
+    }
+    let size = kind.size as usize;
+    if array.len() != size {
+        return Reply::Refused {
+            number: 5,
+            place: 0,
+        };
+    }
+    if out.len() < formats::lines_length(format, size / forms::ROW) {
+        return Reply::Refused {
+            number: 19,
+            place: 0,
+        };
+    }
+    Reply::Accepted(writer::put_rows(format, array, out))
 }
 
 // Reads an image in Intel's form.
-pub fn read_image(size: usize, text: &[u8], array: &mut [u8]) -> Reply
-    ensures { λ r. ⌜ ReadsImage intel size (now (text .entry)) (now (array .entry)) r (now (array .exit)) ⌝ }
+pub fn read_image(part: u16, text: &[u8], array: &mut [u8]) -> Reply
+    ensures { λ r. ⌜ ReadsImage intel part (now (text .entry)) (now (array .entry)) r (now (array .exit)) ⌝ }
 {
-    read(Format::Intel, size, text, array)
+    read(Format::Intel, part, text, array)
 }
 
 // Writes an image in Intel's form.
-pub fn write_image(size: usize, array: &[u8], out: &mut [u8]) -> Reply
-    ensures { λ r. ⌜ WritesImage intel size (now (array .entry)) (now (out .entry)) r (now (out .exit)) ⌝ }
+pub fn write_image(part: u16, array: &[u8], out: &mut [u8]) -> Reply
+    ensures { λ r. ⌜ WritesImage intel part (now (array .entry)) (now (out .entry)) r (now (out .exit)) ⌝ }
 {
-    write(Format::Intel, size, array, out)
+    write(Format::Intel, part, array, out)
 }

@@ -1,4 +1,5 @@
--- The bench cases of image files (document 01, Bench cases, P10 and P11).
+-- The bench cases of image files (document 01, Bench cases, P10 and P11), for an X4323 and for an X4283 (request 2026-01). Parts, sizes and
+-- rooms stand in them as numbers.
 use Prim.Native.Nat.{ℕ, _≤_}
 use Prim.Native.Char.{code}
 use Prim.Native.String.{String, [] as ended, _∷_ as _before_}
@@ -18,28 +19,38 @@ abbrev pub codesOf : String → List ℕ
 codesOf ended = []
 codesOf (c before s) = code c ∷ codesOf s
 
--- The image that the paper shows: all FFh but 4Ch at 0010h (Image files, all FFh but).
-abbrev pub paperArray : List ℕ
-paperArray = set (replicate 4096 0xFF) 0x0010 0x4C
+-- The image that the paper shows, of so many bytes: all FFh but 4Ch at 0010h (Image files, all FFh but).
+abbrev pub paperArray : ℕ → List ℕ
+paperArray size = set (replicate size 0xFF) 0x0010 0x4C
 
 -- Its fixed form, whole (Image files, all FFh but).
 abbrev pub paperText : List ℕ
 paperText = codesOf ":100010004CFFFFFFFFFFFFFFFFFFFFFFFFFFFFFFA3\n:00000001FF\n"
 
 -- The image above is written as that text, that text gives it, and the program leaves the text as it is (Bench cases, P10).
-pub record P10 : Type 0 where
-  pub written : imageText intel paperArray ≡ paperText
-  pub read : readingOf intel 4096 paperText ≡ taken paperArray
-  pub tidied : shownOf 4096 paperText ≡ paperText
+pub record ShownFor (part size room : ℕ) : Type 0 where
+  pub written : imageText intel (paperArray size) ≡ paperText
+  pub read : readingOf intel size paperText ≡ taken (paperArray size)
+  pub tidied : shownOf part paperText ≡ paperText
   -- the same of the operations: 56 is the text's length
-  pub writes : (out out′ : List ℕ) (r : Reply) → 11276 ≤ length out → WritesImage intel 4096 paperArray out r out′
+  pub writes : (out out′ : List ℕ) (r : Reply) → room ≤ length out → WritesImage intel part (paperArray size) out r out′
       → (meant r ≡ accepted 56) × (out′ ≡ paperText ++ drop 56 out)
-  pub reads : (old array′ : List ℕ) (r : Reply) → length old ≡ 4096 → ReadsImage intel 4096 paperText old r array′
-      → (meant r ≡ accepted 56) × (array′ ≡ paperArray)
+  pub reads : (old array′ : List ℕ) (r : Reply) → length old ≡ size → ReadsImage intel part paperText old r array′
+      → (meant r ≡ accepted 56) × (array′ ≡ paperArray size)
+
+-- The paper's image for the smaller part, and for the larger (Bench cases, P10; request 2026-01).
+pub record P10 : Type 0 where
+  pub small : ShownFor 4323 4096 11276
+  pub large : ShownFor 4283 16384 45068
 
 -- An empty text is 17 at 0, the array stays, and that is the line that the program writes (Bench cases, P11).
-pub record P11 : Type 0 where
-  pub read : readingOf intel 4096 [] ≡ bad 17 0
-  pub tidied : shownOf 4096 [] ≡ codesOf "17 0\n"
-  pub reads : (old array′ : List ℕ) (r : Reply) → length old ≡ 4096 → ReadsImage intel 4096 [] old r array′
+pub record EmptyFor (part size : ℕ) : Type 0 where
+  pub read : readingOf intel size [] ≡ bad 17 0
+  pub tidied : shownOf part [] ≡ codesOf "17 0\n"
+  pub reads : (old array′ : List ℕ) (r : Reply) → length old ≡ size → ReadsImage intel part [] old r array′
       → (meant r ≡ refused 17 0) × (array′ ≡ old)
+
+-- The empty text for the smaller part, and for the larger (Bench cases, P11; request 2026-01).
+pub record P11 : Type 0 where
+  pub small : EmptyFor 4323 4096
+  pub large : EmptyFor 4283 16384

@@ -1,10 +1,9 @@
--- Written and read back through the door, at the X4323's size. It rests on the claim that it names.
+-- Written and read back through the door. It rests on the claim that it names.
 use Prim.Native.Nat.{ℕ}
 use mathlib.Core.List.{List}
 use mathlib.Core.Path.{_≡_, refl, sym, _∙_}
 use lib.ListN.{length, take}
 use borrow.Author.Tests.{eq-eqb}
-use Rattle.ground.specs.Numbers.{smallSize}
 use Rattle.ground.specs.Verdict.{Verdict, accepted, refused, meant}
 use Rattle.ground.specs.declared.Reply.{Reply}
 use Rattle.ground.specs.declared.Reply.the-variants.{Accepted, Refused}
@@ -24,22 +23,22 @@ unfolding meant
 reply-means (accepted n) = refl
 reply-means (refused k p) = refl
 
--- Through the door at the X4323's size.
+-- Through the door.
 pub door-from : WriteThenRead → DoorTrip
 door-from trip =
     record {
-      back = λ array out numbers out′ numbers′ old numbers₂ array′ numbers₂′ r r₂ n b f w v o g q.
+      back = λ part array out numbers out′ numbers′ old numbers₂ array′ numbers₂′ r r₂ n b f w v o g q.
           let d = eq-eqb (length numbers) 2 f in
           let h = eq-eqb (length numbers₂) 2 g in
           let text : List ℕ = take n out′ in
-          let reading = imageOf intel smallSize text old in
-          let x : WritesImage intel smallSize array out (Accepted n) out′ =
+          let reading = imageOf intel part text old in
+          let x : WritesImage intel part array out (Accepted n) out′ =
           record { reply = reply-means (accepted n) ∙ sym v; said = w .said ∙ rw d }
           in
-          let y : ReadsImage intel smallSize text old (replyOf (verdictOf reading (length text))) (arrayAfter reading old) =
+          let y : ReadsImage intel part text old (replyOf (verdictOf reading (length text))) (arrayAfter reading old) =
           record { reply = reply-means (verdictOf reading (length text)); kept = refl }
           in
-          let z = trip .back 256 array out out′ old (arrayAfter reading old) (Accepted n) (replyOf (verdictOf reading (length text)))
+          let z = trip .back part array out out′ old (arrayAfter reading old) (Accepted n) (replyOf (verdictOf reading (length text)))
           n b x (reply-means (accepted n)) o y
           in
           let t : verdictOf reading (length text) ≡ accepted n = sym (reply-means (verdictOf reading (length text))) ∙ z .reply in

@@ -1,5 +1,6 @@
 -- The claims on images, each of exactly the type that specs/ names. No axiom is used.
-use mathlib.Core.Path.{refl, _∙_}
+use Prim.Native.Nat.{_*_, _/_}
+use mathlib.Core.Path.{_≡_, refl, _∙_}
 use native.Mathlib.Omega.{arith}
 use Rattle.forms.specs.Writing.{linesLength}
 use Rattle.forms.proofs.Lengths.{length-image, length-most}
@@ -33,7 +34,9 @@ lengths =
       row = λ address row h. length-record address 0 row ∙ rw h;
       end = length-record 0 1 _;
       most = λ array. omega (arith, length-image intel intel-measured array, length-most intel array);
+      rows = λ n. let e : n * 16 / 16 ≡ n = omega arith in rw e;
       small = refl;
+      large = refl;
     }
 
 -- Written and read back, by the operations.

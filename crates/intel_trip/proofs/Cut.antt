@@ -8,6 +8,7 @@ use lib.Dec.{leb}
 use lib.ListN.{length, take, length-take}
 use lib.Seq.{take-all}
 use borrow.Author.Tests.{leb-true, leb-false, lt-leb}
+use Rattle.ground.specs.Kind.{kindOf}
 use Rattle.forms.specs.Reading.{mostText, readingOf}
 use Rattle.intel.specs.Intel.{intel}
 use Rattle.tidying.specs.Shown.{shownOf}
@@ -25,6 +26,6 @@ cut-by size text false e =
     rw (e, lt-leb (length (take (mostText + 1) text)) mostText (omega arith))
 
 -- A text is shown as far as it is looked at.
-pub shown-cut : (size : ℕ) (text : List ℕ) → shownOf size text ≡ shownOf size (take (mostText + 1) text)
+pub shown-cut : (part : ℕ) (text : List ℕ) → shownOf part text ≡ shownOf part (take (mostText + 1) text)
 unfolding shownOf
-shown-cut size text = rw (← cut-by size text (leb (length text) mostText) refl)
+shown-cut part text = rw (← cut-by (kindOf part .size) text (leb (length text) mostText) refl)

@@ -30,27 +30,27 @@ unfolding meant
 told-refused row r k p h e = rw e (both-written row k p h)
 
 -- A reply row of another length: nothing is done.
-module _ (size : ℕ) (numbers : List ℕ) (h : length numbers ≡ 2 → ⊥) where
-  pub reads-none : (text array : List ℕ) → ReadsThrough size text array numbers 0 array numbers
+module _ (part : ℕ) (numbers : List ℕ) (h : length numbers ≡ 2 → ⊥) where
+  pub reads-none : (text array : List ℕ) → ReadsThrough part text array numbers 0 array numbers
   reads-none text array =
       let e = ne-eqb (length numbers) 2 h in
       record { answer = rw e; reply = rw e; kept = rw e }
 
-  pub writes-none : (array out : List ℕ) → WritesThrough size array out numbers 0 out numbers
+  pub writes-none : (array out : List ℕ) → WritesThrough part array out numbers 0 out numbers
   writes-none array out =
       let e = ne-eqb (length numbers) 2 h in
       record { answer = rw e; reply = rw e; said = rw e }
 
 -- A reply row of two numbers: the operation is done, and its reply told.
-module _ (size : ℕ) (numbers numbers′ : List ℕ) (r : Reply) (h : length numbers ≡ 2) (t : numbers′ ≡ told (meant r)) where
-  pub reads-told : (text array array′ : List ℕ) → ReadsImage intel size text array r array′
-      → ReadsThrough size text array numbers 1 array′ numbers′
+module _ (part : ℕ) (numbers numbers′ : List ℕ) (r : Reply) (h : length numbers ≡ 2) (t : numbers′ ≡ told (meant r)) where
+  pub reads-told : (text array array′ : List ℕ) → ReadsImage intel part text array r array′
+      → ReadsThrough part text array numbers 1 array′ numbers′
   reads-told text array array′ x =
       let e = eq-eqb (length numbers) 2 h in
       record { answer = rw e; reply = t ∙ ap told (x .reply) ∙ rw e; kept = x .kept ∙ rw e }
 
-  pub writes-told : (array out out′ : List ℕ) → WritesImage intel size array out r out′
-      → WritesThrough size array out numbers 1 out′ numbers′
+  pub writes-told : (array out out′ : List ℕ) → WritesImage intel part array out r out′
+      → WritesThrough part array out numbers 1 out′ numbers′
   writes-told array out out′ x =
       let e = eq-eqb (length numbers) 2 h in
       record { answer = rw e; reply = t ∙ ap told (x .reply) ∙ rw e; said = x .said ∙ rw e }

@@ -30,14 +30,14 @@ abbrev pub leftOr : Bool → List ℕ → List ℕ → List ℕ
 leftOr true after before = after
 leftOr false after before = before
 
--- Reading an image: the array that the text gives; refused, as it was (Refusal numbers, 5, 11 to 18; Image files).
-pub record ReadsThrough (size : ℕ) (text array numbers : List ℕ) (r : ℕ) (array′ numbers′ : List ℕ) : Type 0 where
+-- Reading an image: the array that the text gives; refused, as it was (Refusal numbers, 1, 5, 11 to 18; Image files).
+pub record ReadsThrough (part : ℕ) (text array numbers : List ℕ) (r : ℕ) (array′ numbers′ : List ℕ) : Type 0 where
   pub answer : r ≡ answerBy (fits numbers)
-  pub reply : numbers′ ≡ leftOr (fits numbers) (told (verdictOf (imageOf intel size text array) (length text))) numbers
-  pub kept : array′ ≡ leftOr (fits numbers) (arrayAfter (imageOf intel size text array) array) array
+  pub reply : numbers′ ≡ leftOr (fits numbers) (told (verdictOf (imageOf intel part text array) (length text))) numbers
+  pub kept : array′ ≡ leftOr (fits numbers) (arrayAfter (imageOf intel part text array) array) array
 
--- Writing an image: the buffer with the fixed form at its start; refused, as it was (Refusal numbers, 5, 19; Image files).
-pub record WritesThrough (size : ℕ) (array out numbers : List ℕ) (r : ℕ) (out′ numbers′ : List ℕ) : Type 0 where
+-- Writing an image: the buffer with the fixed form at its start; refused, as it was (Refusal numbers, 1, 5, 19; Image files).
+pub record WritesThrough (part : ℕ) (array out numbers : List ℕ) (r : ℕ) (out′ numbers′ : List ℕ) : Type 0 where
   pub answer : r ≡ answerBy (fits numbers)
-  pub reply : numbers′ ≡ leftOr (fits numbers) (told (writeVerdict intel size array out)) numbers
-  pub said : out′ ≡ leftOr (fits numbers) (outAfter intel (writeVerdict intel size array out) array out) out
+  pub reply : numbers′ ≡ leftOr (fits numbers) (told (writeVerdict intel part array out)) numbers
+  pub said : out′ ≡ leftOr (fits numbers) (outAfter intel (writeVerdict intel part array out) array out) out

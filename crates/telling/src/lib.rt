@@ -31,24 +31,24 @@ pub fn tell(row: &mut [u64], reply: Reply)
     }
 }
 
-// Reads an image into an array of a size.
-pub fn read_image(size: usize, text: &[u8], array: &mut [u8], reply: &mut [u64]) -> u8
-    ensures { λ r. ⌜ ReadsThrough size (now (text .entry)) (now (array .entry)) (now (reply .entry)) r (now (array .exit)) (now (reply .exit)) ⌝ }
+// Reads an image into the array of a part.
+pub fn read_image(part: u16, text: &[u8], array: &mut [u8], reply: &mut [u64]) -> u8
+    ensures { λ r. ⌜ ReadsThrough part (now (text .entry)) (now (array .entry)) (now (reply .entry)) r (now (array .exit)) (now (reply .exit)) ⌝ }
 {
     if reply.len() != NUMBERS {
         return NOT_DONE;
     }
-    tell(reply, image::read_image(size, text, array));
+    tell(reply, image::read_image(part, text, array));
     DONE
 }
 
-// Writes the image of an array of a size at the start of `out`.
-pub fn write_image(size: usize, array: &[u8], out: &mut [u8], reply: &mut [u64]) -> u8
-    ensures { λ r. ⌜ WritesThrough size (now (array .entry)) (now (out .entry)) (now (reply .entry)) r (now (out .exit)) (now (reply .exit)) ⌝ }
+// Writes the image of a part's array at the start of `out`.
+pub fn write_image(part: u16, array: &[u8], out: &mut [u8], reply: &mut [u64]) -> u8
+    ensures { λ r. ⌜ WritesThrough part (now (array .entry)) (now (out .entry)) (now (reply .entry)) r (now (out .exit)) (now (reply .exit)) ⌝ }
 {
     if reply.len() != NUMBERS {
         return NOT_DONE;
     }
-    tell(reply, image::write_image(size, array, out));
+    tell(reply, image::write_image(part, array, out));
     DONE
 }

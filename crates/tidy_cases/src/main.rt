@@ -8,8 +8,7 @@ fn show(fd: i32, name: &[u8]) -> bool {
     let mut text = tidying::rooms::text_room();
     let length = io::read_full(fd, &mut text);
     let mut out = tidying::rooms::out_room();
-    let kind = kinds::kind_of(kinds::X4323);
-    let written = tidying::fixed_form(kind.size as usize, &text[..length], &mut out);
+    let written = tidying::fixed_form(kinds::X4323, &text[..length], &mut out);
     io::write_all(STDOUT_FILENO, b"== ")
         && io::write_all(STDOUT_FILENO, name)
         && io::write_all(STDOUT_FILENO, b"\n")

@@ -1,13 +1,14 @@
 -- Laws of what is shown of a text: an image's fixed form, or a refusal's line. Assumes nothing.
-use Prim.Native.Nat.{ℕ, _/_, _≤_, min}
+use Prim.Native.Nat.{ℕ, _/_, _≤_}
 use mathlib.Core.Bool.{Bool, true, false, true≢false}
 use mathlib.Core.List.{List, _++_}
 use mathlib.Core.Path.{_≡_, refl, ap, sym, _∙_}
 use native.Mathlib.Omega.{arith}
-use lib.Dec.{leb}
 use lib.ListN.{length, drop, length-append}
 use lib.Seq.{length-take-le}
-use borrow.Author.Tests.{eq-eqb, ne-eqb, le-leb, leb-true, leb-false}
+use borrow.Author.Tests.{eq-eqb, le-leb}
+use Rattle.ground.specs.Numbers.{largeSize}
+use Rattle.ground.specs.Kind.{kindOf, known}
 use Rattle.ground.specs.Verdict.{accepted, refused}
 use Rattle.ground.specs.declared.Reply.{Reply}
 use Rattle.ground.specs.declared.Reply.the-variants.{Accepted, Refused}
@@ -18,37 +19,42 @@ use Rattle.forms.proofs.Lengths.{lines-most, length-image}
 use Rattle.intel.specs.Intel.{intel}
 use Rattle.formats.proofs.Named.{intel-measured}
 use Rattle.reader.specs.Answers.{verdictOf, arrayAfter}
-use Rattle.image.specs.Promises.{largestSize, sized, imageBy, imageOf, writeVerdict, ReadsImage, WritesImage}
-use Rattle.image.proofs.Sizes.{size-of}
+use Rattle.image.specs.Promises.{sized, imageBy, imageOf, writeVerdict, ReadsImage, WritesImage}
+use Rattle.image.proofs.Sizes.{kind-most}
 use Rattle.texts.specs.Refusal.{refusalLine}
 use Rattle.texts.specs.Laying.{Starts}
-use Rattle.tidying.specs.Shown.{shownOf}
+use Rattle.tidying.specs.Shown.{textOf, shownOf}
 
--- Writing is not refused where array and buffer have their sizes.
-written : (size : ℕ) (array out : List ℕ) → sized size (length array) ≡ true → mostLength intel largestSize ≤ length out
-    → writeVerdict intel size array out ≡ accepted (lengthOf intel array)
-unfolding writeVerdict
-written size array out h k =
-    let s = size-of size (length array) h in
-    let l : size / 16 ≤ largestSize / 16 = omega arith in
-    let m : mostLength intel size ≤ length out = omega (arith, lines-most intel (size / 16) (largestSize / 16) l) in
-    rw (h, le-leb (mostLength intel size) (length out) m)
+-- An array of the part's size passes the test.
+right-size : (part : ℕ) (array : List ℕ) → length array ≡ kindOf part .size → sized part (length array) ≡ true
+right-size part array h = eq-eqb (length array) (kindOf part .size) h
 
-pub image-refused : (size : ℕ) (array out out′ : List ℕ) (r : Reply) (k p : ℕ) → sized size (length array) ≡ true
-    → mostLength intel largestSize ≤ length out → WritesImage intel size array out r out′ → r ≡ Refused k p → ⊥
-image-refused size array out out′ r k p h m w e =
-    apart k p (lengthOf intel array) (sym (is-refused r (writeVerdict intel size array out) k p (w .reply) e) ∙ written size array out h m)
+-- Writing is not refused where the part is known and array and buffer have their sizes.
+module _ (part : ℕ) (array out : List ℕ) (b : known part ≡ true) (h : length array ≡ kindOf part .size)
+    (m : mostLength intel largeSize ≤ length out) where
+  written : writeVerdict intel part array out ≡ accepted (lengthOf intel array)
+  unfolding writeVerdict
+  written =
+      let k = kind-most part in
+      let l : kindOf part .size / 16 ≤ largeSize / 16 = omega arith in
+      let n : mostLength intel (kindOf part .size) ≤ length out =
+      omega (arith, lines-most intel (kindOf part .size / 16) (largeSize / 16) l) in
+      rw (b, right-size part array h, le-leb (mostLength intel (kindOf part .size)) (length out) n)
 
-pub image-starts : (size : ℕ) (array out out′ : List ℕ) (r : Reply) (n : ℕ) → sized size (length array) ≡ true
-    → mostLength intel largestSize ≤ length out → WritesImage intel size array out r out′ → r ≡ Accepted n → Starts (imageText intel array) out n out′
-image-starts size array out out′ r n h m w e =
-    let v : accepted n ≡ accepted (lengthOf intel array) =
-    sym (is-accepted r (writeVerdict intel size array out) n (w .reply) e) ∙ written size array out h m in
-    let q : lengthOf intel array ≡ n = cc in
-    let s : out′ ≡ imageText intel array ++ drop n out = rw (written size array out h m, q) at (w .said) in
-    let l : length (imageText intel array) ≡ n = length-image intel intel-measured array ∙ q in
-    let f : n ≤ length out′ = omega (arith, ap length s, length-append (imageText intel array) (drop n out)) in
-    record { shown = s; count = sym l; fits = (f, sym (length-take-le n out′ f)) }
+  pub image-refused : (out′ : List ℕ) (r : Reply) (k p : ℕ) → WritesImage intel part array out r out′ → r ≡ Refused k p → ⊥
+  image-refused out′ r k p w e =
+      apart k p (lengthOf intel array) (sym (is-refused r (writeVerdict intel part array out) k p (w .reply) e) ∙ written)
+
+  pub image-starts : (out′ : List ℕ) (r : Reply) (n : ℕ) → WritesImage intel part array out r out′ → r ≡ Accepted n
+      → Starts (imageText intel array) out n out′
+  image-starts out′ r n w e =
+      let v : accepted n ≡ accepted (lengthOf intel array) =
+      sym (is-accepted r (writeVerdict intel part array out) n (w .reply) e) ∙ written in
+      let q : lengthOf intel array ≡ n = cc in
+      let s : out′ ≡ imageText intel array ++ drop n out = rw (written, q) at (w .said) in
+      let l : length (imageText intel array) ≡ n = length-image intel intel-measured array ∙ q in
+      let f : n ≤ length out′ = omega (arith, ap length s, length-append (imageText intel array) (drop n out)) in
+      record { shown = s; count = sym l; fits = (f, sym (length-take-le n out′ f)) }
 
 -- What a reading was, by its verdict.
 bad-of : (v : Reading) (n k p : ℕ) → verdictOf v n ≡ refused k p → v ≡ bad k p
@@ -59,45 +65,36 @@ taken-of : (v : Reading) (old array : List ℕ) (n m : ℕ) → verdictOf v n �
 taken-of (taken given) old array n m e f = ap taken (sym f)
 taken-of (bad k p) old array n m e f = let z : _≡_ {A = ℕ} 0 1 = cc in absurd (omega arith)
 
--- An array of as many bytes as a size says, or of all that there can be, has that size exactly where there is such a size.
-decides-by : (b : Bool) (size n : ℕ) → leb size largestSize ≡ b → n ≡ min size largestSize → sized size n ≡ b
-unfolding sized
-decides-by true size n e h = let k = leb-true size largestSize e in rw (eq-eqb n size (omega arith)) e
-decides-by false size n e h = let k = leb-false size largestSize e in rw (ne-eqb n size (λ q. omega arith))
+-- A reading that is accepted is that of a known part.
+known-by : (b c : Bool) (v : Reading) (array : List ℕ) → imageBy b c v ≡ taken array → b ≡ true
+known-by true c v array e = refl
+known-by false c v array e = absurd (true≢false (cc))
 
-size-decides : (size n : ℕ) → n ≡ min size largestSize → sized size n ≡ leb size largestSize
-size-decides size n h = decides-by (leb size largestSize) size n refl h
-
--- A reading that is accepted is that of an array of the size.
-sized-by : (b : Bool) (v : Reading) (array : List ℕ) → imageBy b v ≡ taken array → b ≡ true
-sized-by true v array e = refl
-sized-by false v array e = absurd (true≢false (cc))
-
-module _ (size : ℕ) (text array array′ : List ℕ) (r : Reply) (h : length array ≡ min size largestSize)
-    (w : ReadsImage intel size text array r array′) where
-  -- The array that was lent decides nothing, only its size and the text.
-  text-decides : imageOf intel size text array ≡ imageBy (leb size largestSize) (readingOf intel size text)
+module _ (part : ℕ) (text array array′ : List ℕ) (r : Reply) (h : length array ≡ kindOf part .size)
+    (w : ReadsImage intel part text array r array′) where
+  -- The array that was lent decides nothing, only the part and the text.
+  text-decides : imageOf intel part text array ≡ textOf part text
   unfolding imageOf
-  text-decides = rw (size-decides size (length array) h)
+  text-decides = rw (right-size part array h)
 
-  read-taken : (m : ℕ) → r ≡ Accepted m → imageOf intel size text array ≡ taken array′
-  read-taken m e = taken-of (imageOf intel size text array) array array′ (length text) m (is-accepted r _ m (w .reply) e) (w .kept)
+  read-taken : (m : ℕ) → r ≡ Accepted m → imageOf intel part text array ≡ taken array′
+  read-taken m e = taken-of (imageOf intel part text array) array array′ (length text) m (is-accepted r _ m (w .reply) e) (w .kept)
 
-  -- What was read and accepted can be written.
-  pub read-sized : (m : ℕ) → r ≡ Accepted m → length array′ ≡ length array → sized size (length array′) ≡ true
-  unfolding imageOf
-  read-sized m e l = rw l (sized-by (sized size (length array)) (readingOf intel size text) array′ (read-taken m e))
+  -- What was read and accepted is of a known part.
+  pub read-known : (m : ℕ) → r ≡ Accepted m → known part ≡ true
+  read-known m e =
+      known-by (known part) true (readingOf intel (kindOf part .size) text) array′ (sym text-decides ∙ read-taken m e)
 
   -- What is shown of a text that is read, by the reply.
   pub shows-refusal : (out out′ : List ℕ) (k p n : ℕ) → r ≡ Refused k p → Starts (refusalLine k p) out n out′
-      → Starts (shownOf size text) out n out′
+      → Starts (shownOf part text) out n out′
   unfolding shownOf
   shows-refusal out out′ k p n e s =
-      let b : imageOf intel size text array ≡ bad k p =
-      bad-of (imageOf intel size text array) (length text) k p (is-refused r _ k p (w .reply) e) in
+      let b : imageOf intel part text array ≡ bad k p =
+      bad-of (imageOf intel part text array) (length text) k p (is-refused r _ k p (w .reply) e) in
       rw (sym text-decides ∙ b) s
 
   pub shows-image : (out out′ : List ℕ) (m n : ℕ) → r ≡ Accepted m → Starts (imageText intel array′) out n out′
-      → Starts (shownOf size text) out n out′
+      → Starts (shownOf part text) out n out′
   unfolding shownOf
   shows-image out out′ m n e s = rw (sym text-decides ∙ read-taken m e) s

@@ -1,11 +1,12 @@
 -- What the program writes for a text (document 01, Image files, on a refusal; The part on our bench).
 use Prim.Native.Nat.{ℕ}
+use mathlib.Core.Bool.{true}
 use mathlib.Core.List.{List}
-use lib.Dec.{leb}
+use Rattle.ground.specs.Kind.{kindOf, known}
 use Rattle.forms.specs.Reading.{Reading, taken, bad, readingOf}
 use Rattle.forms.specs.Writing.{imageText}
 use Rattle.intel.specs.Intel.{intel}
-use Rattle.image.specs.Promises.{largestSize, imageBy}
+use Rattle.image.specs.Promises.{imageBy}
 use Rattle.texts.specs.Refusal.{refusalLine}
 
 -- An accepted text is written in its fixed form, of a refused one only the refusal's line (Image files).
@@ -13,6 +14,10 @@ abbrev pub shownBy : Reading → List ℕ
 shownBy (taken array) = imageText intel array
 shownBy (bad k p) = refusalLine k p
 
--- What is written for a text as the image of an array of a size; of none beyond the largest kind's (Image files; Refusal numbers, 5).
+-- What a text gives for an array of the part's size, which the program lends (Refusal numbers, 1, 11 to 18; request 2026-01).
+abbrev pub textOf : ℕ → List ℕ → Reading
+textOf part text = imageBy (known part) true (readingOf intel (kindOf part .size) text)
+
+-- What is written for a text as the image of the part that is named (Image files; request 2026-01).
 unfoldable pub shownOf : ℕ → List ℕ → List ℕ
-shownOf size text = shownBy (imageBy (leb size largestSize) (readingOf intel size text))
+shownOf part text = shownBy (textOf part text)

@@ -12,8 +12,8 @@ pub fn text_room() -> [u8; 65537]
 
 // The longest fixed form of the largest array.
 pub fn out_room() -> [u8; image::LONGEST]
-    ensures { λ r. ⌜ 11276 ≡ length r ⌝ }
-    ensures { λ r. ⌜ r ≡ replicate 11276 0 ⌝ }
+    ensures { λ r. ⌜ 45068 ≡ length r ⌝ }
+    ensures { λ r. ⌜ r ≡ replicate 45068 0 ⌝ }
 {
     [0; image::LONGEST]
 }

@@ -1,44 +1,51 @@
--- `image::read` meets its contract.
-use mathlib.Core.Path.{sym, _∙_}
+-- `image::read` meets its contract: the tests in their order, then the lines.
+use mathlib.Core.Path.{ap}
 use native.Mathlib.Omega.{arith}
-use Rattle.image.proofs.Sizes.{size-of}
-use Rattle.image.proofs.Replies.{reads-size, reads-long, reads-lines}
+use Rattle.ground.specs.declared.kinds.Kind.{Kind}
+use Rattle.image.proofs.Sizes.{kind-most}
+use Rattle.image.proofs.Replies.{reads-none, reads-size, reads-long, reads-lines}
 use borrow.Author.Needs.{needs}
 use Rattle.image.proofs.read.Statement.{statement}
 use Rattle.image.proofs.read.Tie as tie
 
-is-sized-requires : tie.Need-is-sized-requires
-is-sized-requires c κs = search needs
+kind-of-requires : tie.Need-kind-of-requires
+kind-of-requires c κs = search needs
 
 returns : tie.Need-returns
-returns c = reads-long _ _ _ _ (c .before .before .is-sized .ensures) (c .before .if1 .taken) (c .if2 .taken)
+returns c = reads-none _ _ _ (c .before .before .kind-of .ensures) _ _ (c .if1 .taken)
 
-slice-aggregate-read-over : tie.Need-slice-aggregate-read-over
-slice-aggregate-read-over c = search needs
+cast-if2 : tie.Need-cast-if2
+cast-if2 c = search needs
 
-read-over-requires : tie.Need-read-over-requires
-read-over-requires c κs =
-    let s = size-of _ _ (sym (c .before .before .before .before .is-sized .ensures) ∙ c .before .before .before .if1 .taken) in
-    (c .before .before .if2 .left, omega arith)
+returns-2 : tie.Need-returns-2
+returns-2 c = reads-size _ _ _ (c .before .before .before .before .kind-of .ensures) _ _ (c .before .before .if1 .left) (c .if2 .taken)
+
+returns-3 : tie.Need-returns-3
+returns-3 c = reads-long _ _ _ (c .before .before .before .before .before .kind-of .ensures) _ _ (c .before .before .before .if1 .left) (c .before .if2 .left) (c .if3 .taken)
+
+read-fresh-requires : tie.Need-read-fresh-requires
+read-fresh-requires c κs =
+    let start = c .before .before .before .before .before .before .before .before .before in
+    let e = ap (λ (k : Kind). k .size) (c .before .before .before .before .before .before .kind-of .ensures) in
+    let h = c .before .before .if2 .left in
+    (c .before .if3 .left, omega (arith, e, h, kind-most (start .args .part)))
 
 same-length : tie.Need-same-length
 same-length c = search needs
 
-returns-2 : tie.Need-returns-2
-returns-2 c =
-    reads-lines _ 4096 _ _ _ _ _ (omega arith) (c .before .before .before .before .before .before .before .before .is-sized .ensures) (c .before .before .before .before .before .before .before .if1 .taken) (c .before .before .before .before .before .before .if2 .left) (c .before .before .before .read-over .ensures)
-
-returns-3 : tie.Need-returns-3
-returns-3 c = reads-size _ _ _ _ (c .before .is-sized .ensures) (c .if1 .left)
+returns-4 : tie.Need-returns-4
+returns-4 c =
+    reads-lines _ _ _ (c .before .before .before .before .before .before .before .before .before .kind-of .ensures) _ _ _ _ (c .before .before .before .before .before .before .before .if1 .left) (c .before .before .before .before .before .if2 .left) (c .before .before .before .before .if3 .left) (c .before .before .read-fresh .ensures)
 
 pub read-spec : {M : Type 1} → statement M
 read-spec =
     tie.close
     (tie.spec
-    is-sized-requires
+    kind-of-requires
     returns
-    slice-aggregate-read-over
-    read-over-requires
-    same-length
+    cast-if2
     returns-2
-    returns-3)
+    returns-3
+    read-fresh-requires
+    same-length
+    returns-4)

@@ -17,21 +17,23 @@ enum-known-reply-2 c = search needs
 
 put-refusal-requires : tie.Need-put-refusal-requires
 unfolding linesLength
-put-refusal-requires c κs = omega (arith, c .before .before .before .before .before .before .before .before .before .before .pre .1)
+put-refusal-requires c κs = omega (arith, c .before .before .before .before .before .before .before .before .before .before .pre .1 .1)
 
 same-length : tie.Need-same-length
 same-length c = search needs
 
 returns : tie.Need-returns
 returns c =
-    image-starts _ _ _ _ _ _ (c .before .before .before .before .before .before .before .before .before .pre .0) (c .before .before .before .before .before .before .before .before .before .pre .1) (c .before .before .before .before .before .write-image .ensures) (c .before .reply .given .1)
+    let start = c .before .before .before .before .before .before .before .before .before in
+    image-starts _ _ _ (start .pre .0) (start .pre .1 .0) (start .pre .1 .1) _ _ _ (c .before .before .before .before .before .write-image .ensures) (c .before .reply .given .1)
 
 same-length-2 : tie.Need-same-length-2
 same-length-2 c = search needs
 
 returns-2 : tie.Need-returns-2
 returns-2 c =
-    absurd (image-refused _ _ _ _ _ _ _ (c .before .before .before .before .before .before .before .before .before .before .before .before .before .pre .0) (c .before .before .before .before .before .before .before .before .before .before .before .before .before .pre .1) (c .before .before .before .before .before .before .before .before .before .write-image .ensures) (c .before .before .before .before .before .reply2 .given .1))
+    let start = c .before .before .before .before .before .before .before .before .before .before .before .before .before in
+    absurd (image-refused _ _ _ (start .pre .0) (start .pre .1 .0) (start .pre .1 .1) _ _ _ _ (c .before .before .before .before .before .before .before .before .before .write-image .ensures) (c .before .before .before .before .before .reply2 .given .1))
 
 pub put-image-spec : {M : Type 1} → statement M
 put-image-spec =

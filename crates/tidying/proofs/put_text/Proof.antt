@@ -1,5 +1,6 @@
 -- `tidying::put_text` meets its contract.
-use Rattle.tidying.proofs.Starting.{read-sized, shows-refusal, shows-image}
+use Rattle.tidying.proofs.Starting.{read-known, shows-refusal, shows-image}
+use mathlib.Core.Path.{_∙_}
 use native.Mathlib.Omega.{arith}
 use borrow.Author.Needs.{needs}
 use Rattle.forms.specs.Writing.{linesLength}
@@ -15,7 +16,8 @@ enum-told c = search needs
 put-image-requires : tie.Need-put-image-requires
 put-image-requires c κs =
     let start = c .before .before .before .before .before .before .before .before .before .before .before in
-    (read-sized _ _ _ _ _ (start .pre .0) (c .before .before .before .before .before .before .read-image .ensures) _ (c .before .before .enum-told .given .1) (c .before .before .before .before .before .before .read-image .kept .1 .1 .0), search needs)
+    let read = c .before .before .before .before .before .before .read-image in
+    (read-known _ _ _ _ _ (start .pre .0) (read .ensures) _ (c .before .before .enum-told .given .1), (read .kept .1 .1 .0 ∙ start .pre .0, search needs))
 
 enum-known-reply : tie.Need-enum-known-reply
 enum-known-reply c = search needs

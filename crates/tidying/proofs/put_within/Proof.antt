@@ -1,25 +1,34 @@
--- `tidying::put_within` meets its contract.
-use mathlib.Core.Path.{sym}
+-- `tidying::put_within` meets its contract: no part has more bytes than there is room for.
+use mathlib.Core.Path.{ap, sym, _∙_}
 use native.Mathlib.Omega.{arith}
 use lib.Seq.{length-take-le}
+use Rattle.ground.specs.declared.kinds.Kind.{Kind}
+use Rattle.image.proofs.Sizes.{kind-most}
 use borrow.Author.Needs.{needs}
 use Rattle.tidying.proofs.put_within.Statement.{statement}
 use Rattle.tidying.proofs.put_within.Tie as tie
 
-lesser-requires : tie.Need-lesser-requires
-lesser-requires c κs = search needs
+kind-of-requires : tie.Need-kind-of-requires
+kind-of-requires c κs = search needs
+
+cast-size : tie.Need-cast-size
+cast-size c = search needs
 
 slice-relend-prefix-put-text : tie.Need-slice-relend-prefix-put-text
-slice-relend-prefix-put-text c = search needs
+slice-relend-prefix-put-text c =
+    let e = ap (λ (k : Kind). k .size) (c .before .kind-of .ensures) in
+    omega (arith, e, kind-most (c .before .before .before .before .before .args .part))
 
 slice-aggregate-put-text : tie.Need-slice-aggregate-put-text
-slice-aggregate-put-text c = sym (length-take-le _ _ (omega arith))
+slice-aggregate-put-text c =
+    let e = ap (λ (k : Kind). k .size) (c .before .before .kind-of .ensures) in
+    sym (length-take-le _ _ (omega (arith, e, kind-most (c .before .before .before .before .before .before .args .part))))
 
 put-text-requires : tie.Need-put-text-requires
 put-text-requires c κs =
-    let n = c .before .before .lesser in
-    let e = length-take-le (n .result) (c .before .before .before .before .before .before .args .array .now) (omega arith) in
-    (omega arith, search needs)
+    let start = c .before .before .before .before .before .before .before in
+    let e = ap (λ (k : Kind). k .size) (c .before .before .before .kind-of .ensures) in
+    (length-take-le _ _ (omega (arith, e, kind-most (start .args .part))) ∙ e, search needs)
 
 same-length : tie.Need-same-length
 same-length c = search needs
@@ -34,7 +43,8 @@ pub put-within-spec : {M : Type 1} → statement M
 put-within-spec =
     tie.close
     (tie.spec
-    lesser-requires
+    kind-of-requires
+    cast-size
     slice-relend-prefix-put-text
     slice-aggregate-put-text
     put-text-requires
