@@ -12,17 +12,21 @@ struct call {
     size_t elapsed_len, levels_len, array_len, answers_len, text_len, out_len, reply_len;
 };
 
-/* Rows with room for one more than the rules allow. */
+/* Rows with room for one more than the rules allow for any part. */
 static uint32_t elapsed[MOST_SAMPLES + 1];
-static uint8_t levels[MOST_SAMPLES + 1], text[MOST_TEXT + 1], array[ARRAY_BYTES + 1];
+static uint8_t levels[MOST_SAMPLES + 1], text[MOST_TEXT + 1], array[LARGER + 1];
 
 static struct outcome {
     uint8_t answer;
     uint64_t reply[2];
-    uint8_t array[ARRAY_BYTES + 1], answers[MOST_SAMPLES + 1], out[OUT_BYTES + 1];
+    uint8_t array[LARGER + 1], answers[MOST_SAMPLES + 1], out[LARGER_TEXT + 1];
 } outcomes[SIDES];
 
-static const struct call sound = {4323, 0, 0x60, 100, 100, ARRAY_BYTES, 100, 0, OUT_BYTES, 2};
+/* A call that is not refused, with this part's sizes. */
+static struct call sound(const struct kind *kind)
+{
+    return (struct call){kind->part, 0, 0x60, 100, 100, kind->bytes, 100, 0, kind->text, 2};
+}
 
 static void run(const struct side *side, enum operation operation, const struct call *c, struct outcome *o)
 {
@@ -36,10 +40,10 @@ static void run(const struct side *side, enum operation operation, const struct 
                                  c->array_len, o->answers, c->answers_len, o->reply, c->reply_len);
         break;
     case READ:
-        o->answer = side->read(text, c->text_len, o->array, c->array_len, o->reply, c->reply_len);
+        o->answer = side->read(c->part, text, c->text_len, o->array, c->array_len, o->reply, c->reply_len);
         break;
     case WRITE:
-        o->answer = side->write(array, c->array_len, o->out, c->out_len, o->reply, c->reply_len);
+        o->answer = side->write(c->part, array, c->array_len, o->out, c->out_len, o->reply, c->reply_len);
         break;
     }
 }
@@ -63,7 +67,7 @@ static bool agree(const char *what, enum operation operation, const struct call 
     else if (number >= 0 && q->reply[0] != (uint64_t)number)
         differs = "refusal (both give the wrong one)";
     if (differs != NULL)
-        printf("DIFFERS in %s: %s; proved %d (%llu, %llu), C %d (%llu, %llu)\n", what, differs, p->answer,
+        printf("DIFFERS in %s on %u: %s; proved %d (%llu, %llu), C %d (%llu, %llu)\n", what, c->part, differs, p->answer,
                (unsigned long long)p->reply[0], (unsigned long long)p->reply[1], q->answer,
                (unsigned long long)q->reply[0], (unsigned long long)q->reply[1]);
     return differs == NULL;
@@ -71,17 +75,17 @@ static bool agree(const char *what, enum operation operation, const struct call 
 
 static bool agree_on_call(const struct input *in, size_t call)
 {
-    struct call c = sound;
+    struct call c = sound(in->kind);
     size_t at = call * in->job->size, n = in->length[call];
 
     c.stored = in->job->stored;
-    memcpy(array, in->arrays[in->job->operation == WRITE ? call : 0], ARRAY_BYTES);
+    memcpy(array, in->arrays + (in->job->operation == WRITE ? at : 0), in->kind->bytes);
     if (in->job->operation == REPLAY) {
         memcpy(elapsed, in->elapsed + at, n * sizeof elapsed[0]);
         memcpy(levels, in->levels + at, n);
         c.elapsed_len = c.levels_len = c.answers_len = n;
     } else if (in->job->operation == READ) {
-        memset(array, 0xA5, ARRAY_BYTES); /* so that a reader that stores nothing is seen */
+        memset(array, 0xA5, in->kind->bytes); /* so that a reader that stores nothing is seen */
         memcpy(text, in->text + at, n);
         c.text_len = n;
     }
@@ -96,37 +100,48 @@ bool agree_on_job(const struct input *in)
     return ok;
 }
 
-static bool agree_on_replay_refusals(void)
+/* The array size that this part does not have. */
+static size_t other_bytes(const struct kind *kind)
+{
+    return SMALLER + LARGER - kind->bytes;
+}
+
+static const uint16_t no_parts[] = {0, 1, 4282, 4284, 4286, 4322, 4324, 4326, 65535};
+enum { NO_PARTS = sizeof no_parts / sizeof no_parts[0] };
+
+static bool agree_on_replay_refusals(const struct kind *kind)
 {
     bool ok = true;
     struct call c;
 
     memset(elapsed, 0, sizeof elapsed);
     memset(levels, VCC_GOOD | SCL_HIGH | SDA_HIGH, sizeof levels);
-#define TRY(number, change) (c = sound, change, ok &= agree("refusal " #number " (" #change ")", REPLAY, &c, number))
+#define TRY(number, change) (c = sound(kind), change, ok &= agree("refusal " #number " (" #change ")", REPLAY, &c, number))
     TRY(0, c.elapsed_len = c.levels_len = c.answers_len = 0);
     TRY(0, c.elapsed_len = c.levels_len = c.answers_len = MOST_SAMPLES);
-    TRY(1, c.part = 4324);
+    for (int i = 0; i < NO_PARTS; i++)
+        TRY(1, c.part = no_parts[i]);
     TRY(1, (c.part = 0, c.select = 4, c.stored = 6));
     TRY(2, c.select = 4);
     TRY(2, (c.select = 255, c.stored = 2));
     TRY(3, c.stored = 0x02);
     TRY(3, (c.stored = 0x04, c.array_len = 0));
-    TRY(5, c.array_len = ARRAY_BYTES - 1);
-    TRY(5, (c.array_len = ARRAY_BYTES + 1, c.levels_len = 1));
+    TRY(5, c.array_len = kind->bytes - 1);
+    TRY(5, (c.array_len = kind->bytes + 1, c.levels_len = 1));
+    TRY(5, c.array_len = other_bytes(kind));
     TRY(6, c.levels_len = 99);
     TRY(6, c.elapsed_len = MOST_SAMPLES + 1);
     TRY(7, c.elapsed_len = c.levels_len = c.answers_len = MOST_SAMPLES + 1);
     TRY(8, c.answers_len = 99);
     TRY(8, c.answers_len = 101);
     levels[70] = 16;
-    TRY(10, c.part = 4325);
+    TRY(10, c.select = 3);
     elapsed[70] = 100001;
-    TRY(9, c.part = 4325);
+    TRY(9, c.select = 3);
     levels[69] = 255;
-    TRY(10, c.part = 4325);
+    TRY(10, c.select = 3);
     elapsed[0] = 4294967295u;
-    TRY(9, c.part = 4325);
+    TRY(9, c.select = 3);
     TRY(5, c.array_len = 0);
     TRY(77, (c.part = 1, c.reply_len = 1)); /* no reply row, so nothing at all is done */
     TRY(77, c.reply_len = 0);
@@ -134,78 +149,154 @@ static bool agree_on_replay_refusals(void)
     return ok;
 }
 
-static bool agree_on_text(const char *given, int number)
+/* What each text gives on a part of 4,096 bytes and on one of 16,384. */
+static bool agree_on_texts(const struct kind *kind)
 {
-    struct call c = sound;
-    c.text_len = strlen(given);
-    memcpy(text, given, c.text_len);
-    return agree(given, READ, &c, number);
-}
-
-static bool agree_on_image_refusals(void)
-{
-    static const struct { int number; const char *text; } texts[] = {
-        {0, ":00000001FF"}, {0, ":00000001FF\r\n"}, {0, ":0100000000FF\n:00000001FF\r"}, {17, ""}, {12, "\n"}, {12, "\r\n"},
-        {12, "\r"}, {12, ":00000001FF\r\r\n"}, {12, ":00000001FF "}, {12, ":00000001ff\n"}, {12, ":0100000000FF00\n"},
-        {12, ":01000000"}, {12, ":0100000000FF\n\n:00000001FF\n"}, {13, ":00000001FE\n"}, {13, ":0100000200FF\n"},
-        {14, ":00000002FE\n"}, {14, ":00000101FE\n"}, {14, ":0100000100FE\n"}, {15, ":01100000FFF0\n"}, {15, ":020FFF000000F0\n"},
-        {0, ":00FFFF0002\n:00000001FF\n"}, {16, ":010FFF0000F1\n:010FFF0000F1\n"}, {17, ":010FFF0000F1\n"},
-        {18, ":00000001FF\n\n"}, {18, ":00000001FF\n:00000001FF\n"}, {18, ":00000001FF\n\r"},
+    static const struct { int smaller, larger; const char *text; } texts[] = {
+        {0, 0, ":00000001FF"}, {0, 0, ":00000001FF\r\n"}, {0, 0, ":0100000000FF\n:00000001FF\r"}, {17, 17, ""}, {12, 12, "\n"},
+        {12, 12, "\r\n"}, {12, 12, "\r"}, {12, 12, ":00000001FF\r\r\n"}, {12, 12, ":00000001FF "}, {12, 12, ":00000001ff\n"},
+        {12, 12, ":0100000000FF00\n"}, {12, 12, ":01000000"}, {12, 12, ":0100000000FF\n\n:00000001FF\n"},
+        {13, 13, ":00000001FE\n"}, {13, 13, ":0100000200FF\n"}, {14, 14, ":00000002FE\n"}, {14, 14, ":00000101FE\n"},
+        {14, 14, ":0100000100FE\n"}, {15, 17, ":01100000FFF0\n"}, {15, 17, ":020FFF000000F0\n"},
+        {15, 0, ":013FFF0000C1\n:00000001FF\n"}, {15, 16, ":013FFF0000C1\n:013FFF0000C1\n"}, {15, 15, ":01400000FFC0\n"},
+        {15, 15, ":023FFF000000C0\n"}, {15, 15, ":01800000007F\n"}, {15, 15, ":01FFFF000001\n"},
+        {0, 0, ":00FFFF0002\n:00000001FF\n"}, {16, 16, ":010FFF0000F1\n:010FFF0000F1\n"}, {17, 17, ":010FFF0000F1\n"},
+        {18, 18, ":00000001FF\n\n"}, {18, 18, ":00000001FF\n:00000001FF\n"}, {18, 18, ":00000001FF\n\r"},
     };
     bool ok = true;
-    struct call c = sound;
+    struct call c = sound(kind);
 
     memset(array, 0xA5, sizeof array);
-    for (unsigned i = 0; i < sizeof texts / sizeof texts[0]; i++)
-        ok &= agree_on_text(texts[i].text, texts[i].number);
+    for (unsigned i = 0; i < sizeof texts / sizeof texts[0]; i++) {
+        c.text_len = strlen(texts[i].text);
+        memcpy(text, texts[i].text, c.text_len);
+        ok &= agree(texts[i].text, READ, &c, kind->bytes == LARGER ? texts[i].larger : texts[i].smaller);
+    }
+    return ok;
+}
+
+static bool agree_on_image_refusals(const struct kind *kind)
+{
+    bool ok = agree_on_texts(kind);
+    struct call c;
+
     memset(text, 'x', sizeof text);
-    c.text_len = MOST_TEXT + 1;
-    ok &= agree("text over 65,536 bytes", READ, &c, 11);
-    c.array_len = 0;
-    ok &= agree("text and array of wrong lengths", READ, &c, 5);
-    ok &= agree("writing an array of length 0", WRITE, &c, 5);
-    c.array_len = ARRAY_BYTES;
-    c.out_len = OUT_BYTES - 1;
-    ok &= agree("writing into too little room", WRITE, &c, 19);
-    c.array_len = ARRAY_BYTES + 1;
-    ok &= agree("writing an array too long into too little room", WRITE, &c, 5);
-    c.reply_len = 3;
-    ok &= agree("writing with a reply row of three", WRITE, &c, 77);
-    ok &= agree("reading with a reply row of three", READ, &c, 77);
+#define TRY(operation, number, change) \
+    (c = sound(kind), change, ok &= agree(#operation " " #number " (" #change ")", operation, &c, number))
+    TRY(READ, 11, c.text_len = MOST_TEXT + 1);
+    for (int i = 0; i < NO_PARTS; i++) {
+        TRY(READ, 1, (c.part = no_parts[i], c.array_len = 0, c.text_len = MOST_TEXT + 1));
+        TRY(WRITE, 1, (c.part = no_parts[i], c.array_len = 0, c.out_len = 0));
+    }
+    TRY(READ, 5, (c.array_len = 0, c.text_len = MOST_TEXT + 1));
+    TRY(READ, 5, c.array_len = other_bytes(kind));
+    TRY(READ, 5, c.array_len = kind->bytes - 1);
+    TRY(WRITE, 5, c.array_len = 0);
+    TRY(WRITE, 5, c.array_len = other_bytes(kind));
+    TRY(WRITE, 5, (c.array_len = kind->bytes + 1, c.out_len = kind->text - 1));
+    TRY(WRITE, 19, c.out_len = kind->text - 1);
+    TRY(WRITE, 0, c.out_len = kind->text + 1);
+    TRY(WRITE, kind->bytes == LARGER ? 19 : 0, c.out_len = LARGER_TEXT - 1);
+    TRY(WRITE, 77, c.reply_len = 3);
+    TRY(READ, 77, c.reply_len = 3);
+#undef TRY
     return ok;
 }
 
 bool agree_on_refusals(void)
 {
-    bool replays = agree_on_replay_refusals(), images = agree_on_image_refusals();
-    return replays && images;
+    bool ok = true;
+    for (int i = 0; i < KINDS; i++) {
+        ok &= agree_on_replay_refusals(&kinds[i]);
+        ok &= agree_on_image_refusals(&kinds[i]);
+    }
+    return ok;
 }
 
-bool agree_on_random(void)
+bool agree_on_blocks(void)
 {
-    enum { CAPTURES = 400, LENGTH = 6000, TEXTS = 2000, CHANGES = 3 };
-    static struct input input;
+    enum { CODES = 8 };
     struct master m;
-    struct call c = sound;
     bool ok = true;
 
-    c.elapsed_len = c.levels_len = c.answers_len = LENGTH;
+    for (unsigned i = 0; i < KINDS * CODES; i++) {
+        const struct kind *kind = &kinds[i / CODES];
+        struct call c = sound(kind);
+        unsigned code = i % CODES;
+        fill_array(array, kind->bytes, 1, 1);
+        master_begin(&m, elapsed, levels, MOST_SAMPLES, kind->bytes, 1);
+        capture_places(&m);
+        c.elapsed_len = c.levels_len = c.answers_len = m.length;
+        c.stored = (uint8_t)(0x60 | (code & 3) << 3 | code >> 2);
+        ok &= agree("a block code", REPLAY, &c, 0);
+    }
+    return ok;
+}
+
+static bool agree_on_rough_captures(void)
+{
+    enum { CAPTURES = 800, LENGTH = 6000 };
+    struct master m;
+    bool ok = true;
+
     for (uint32_t seed = 1; ok && seed <= CAPTURES; seed++) {
-        master_begin(&m, elapsed, levels, LENGTH, seed);
-        fill_array(array, 1 + seed % 3, seed);
-        c.part = master_random(&m, 2) ? 4323 : 4325;
+        const struct kind *kind = &kinds[seed % KINDS];
+        struct call c = sound(kind);
+        master_begin(&m, elapsed, levels, LENGTH, kind->bytes, seed);
+        fill_array(array, kind->bytes, 1 + seed % 3, seed);
+        c.elapsed_len = c.levels_len = c.answers_len = LENGTH;
         c.select = (uint8_t)master_random(&m, 4);
         c.stored = (uint8_t)(master_random(&m, 256) & 0xF9);
         capture_rough(&m, c.select);
         ok &= agree("a rough capture", REPLAY, &c, 0);
     }
+    return ok;
+}
+
+/* A text with a few bytes changed, most of which its checksums give away. */
+static size_t damaged_text(struct master *m, const struct input *from)
+{
+    enum { CHANGES = 3 };
+    size_t length = from->length[0];
+
+    memcpy(text, from->text, length);
+    for (uint32_t k = master_random(m, CHANGES + 1); k > 0; k--)
+        text[master_random(m, (uint32_t)length)] = (uint8_t)"0123456789ABCDEF:\n\r \0f"[master_random(m, 22)];
+    return length;
+}
+
+/* A few sound records, most of them near an end of a part or one on another. */
+static size_t scattered_text(struct master *m)
+{
+    static const uint16_t ends[] = {0, SMALLER, LARGER / 2, LARGER};
+    uint8_t *at = text;
+
+    for (uint32_t k = 1 + master_random(m, 4); k > 0; k--) {
+        unsigned count = master_random(m, 4) ? master_random(m, 20) : master_random(m, 256);
+        unsigned address = master_random(m, 8) ? ends[master_random(m, 4)] - master_random(m, 300) : master_random(m, 65536);
+        at = put_line(at, address & 0xFFFF, 0, levels, count);
+    }
+    return (size_t)(put_line(at, 0, 1, NULL, 0) - text);
+}
+
+bool agree_on_random(void)
+{
+    enum { TURNS = 2000 };
+    static struct input input;
+    struct master m;
+    bool ok = agree_on_rough_captures();
+
     make_input(&input, job_named("read-1k"));
-    c.text_len = input.length[0];
-    for (uint32_t i = 0; ok && i < TEXTS; i++) {
-        memcpy(text, input.text, c.text_len);
-        for (uint32_t k = master_random(&m, CHANGES + 1); k > 0; k--)
-            text[master_random(&m, (uint32_t)c.text_len)] = (uint8_t)"0123456789ABCDEF:\n\r \0f"[master_random(&m, 22)];
+    master_begin(&m, elapsed, levels, 0, LARGER, 1);
+    for (uint32_t turn = 0; ok && turn < TURNS; turn++) {
+        const struct kind *kind = &kinds[turn % KINDS];
+        struct call c = sound(kind);
+        fill_array(array, kind->bytes, turn % 7, turn);
+        c.text_len = damaged_text(&m, &input);
         ok &= agree("a damaged text", READ, &c, -1);
+        c.text_len = scattered_text(&m);
+        ok &= agree("scattered records", READ, &c, -1);
+        ok &= turn % 8 >= KINDS || agree("some array", WRITE, &c, 0);
     }
     return ok;
 }

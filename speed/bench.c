@@ -1,5 +1,5 @@
 /* The benchmark's program; `run` calls it.
- *   bench check              both sides on every job, on refused and on random inputs; status 1 if anything differs
+ *   bench check              both sides on every job, on refused and random inputs and at blocks' ends; status 1 if anything differs
  *   bench table ROUNDS WAY [COUNTS]   measures and judges; WAY is `time` or `instructions`; status 1 if a bar is missed.
  *                            COUNTS: a file of lines `JOB PROVED C`, instructions of the job counted from outside
  *   bench counter            status 0 if the kernel lets this program count its instructions itself
@@ -13,6 +13,7 @@
 #include <string.h>
 
 enum { MOST_C_INSTRUCTIONS = 95 };
+static const double most_of_larger = 0.5; /* of the cost of reading no data */
 
 struct row {
     size_t calls, units;
@@ -32,6 +33,7 @@ static int check(void)
         ok &= agree_on_job(&input);
     }
     ok &= agree_on_refusals();
+    ok &= agree_on_blocks();
     ok &= agree_on_random();
     printf(ok ? "equal: replies, answers, arrays and texts of both sides on every input\n" : "FAIL: the two sides differ\n");
     return !ok;
@@ -59,7 +61,7 @@ static int write_input(const struct job *job)
     if (job->operation == READ)
         fwrite(input.text, 1, input.length[0], stdout);
     else
-        fwrite(input.arrays[0], 1, ARRAY_BYTES, stdout);
+        fwrite(input.arrays, 1, input.kind->bytes, stdout);
     return 0;
 }
 
@@ -152,22 +154,49 @@ static void print_head(const char *title)
            "ratio", "proved", "C", "ratio");
 }
 
+/* Rows by name, with nothing judged. */
+static void print_rows(const char *title, const char *const names[], size_t count, bool by_time)
+{
+    print_head(title);
+    for (size_t i = 0; i < count; i++)
+        print_row(job_named(names[i]), by_time, false);
+}
+
 static bool print_c_quality(void)
 {
     double c = rows[job_named("mix") - jobs].instructions[PLAIN_C];
 
     if (c <= 0) {
-        printf("\nC twin on the mix: - instructions a sample (no way to count them here), at most %d: not judged\n", MOST_C_INSTRUCTIONS);
+        printf("C twin on the mix: - instructions a sample (no way to count them here), at most %d: not judged\n", MOST_C_INSTRUCTIONS);
         return true;
     }
-    printf("\nC twin on the mix: %.1f instructions a sample, at most %d: %s\n", c, MOST_C_INSTRUCTIONS,
+    printf("C twin on the mix: %.1f instructions a sample, at most %d: %s\n", c, MOST_C_INSTRUCTIONS,
            c <= MOST_C_INSTRUCTIONS ? "pass" : "FAIL");
     return c <= MOST_C_INSTRUCTIONS;
 }
 
+/* To read an image of no data is to clear and copy the part's cells and little else, so a reader that took as many of them for
+ * either size would cost the same on both. */
+static bool print_spared(void)
+{
+    const struct row *smaller = &rows[job_named("read-none") - jobs], *larger = &rows[job_named("read-none-larger") - jobs];
+    double time = ratio(smaller->time[PROVED].best, larger->time[PROVED].best);
+    double counted = ratio(smaller->instructions[PROVED], larger->instructions[PROVED]);
+    bool pass = time + counted > 0 && time <= most_of_larger && counted <= most_of_larger;
+
+    printf("\nproved, reading no data: the smaller part takes");
+    figure(time, 0, 3);
+    printf(" of the larger one's time,");
+    figure(counted, 0, 3);
+    printf(" of its instructions, at most %.1f: %s\n", most_of_larger, pass ? "pass" : "FAIL");
+    return pass;
+}
+
 static int table(unsigned rounds, bool by_time, const char *counts)
 {
-    static const char *growth[] = {"mix-4k", "mix-16k", "mix", "read-1k", "read-4k", "read-16k", "read-64k"};
+    static const char *const growth[] = {"mix-4k", "mix-16k", "mix", "read-1k", "read-4k", "read-16k", "read-64k"};
+    static const char *const larger[] = {"mix", "mix-larger", "read-full", "read-larger", "write-full", "write-larger",
+                                         "read-none", "read-none-larger"};
     bool ok = true;
 
     measure(rounds, by_time, counts == NULL && can_count());
@@ -179,9 +208,9 @@ static int table(unsigned rounds, bool by_time, const char *counts)
     for (int i = 0; i < JOBS; i++)
         if (jobs[i].bar > 0)
             ok &= print_row(&jobs[i], by_time, true);
-    print_head("How cost grows (the same figures by size)");
-    for (unsigned i = 0; i < sizeof growth / sizeof growth[0]; i++)
-        print_row(job_named(growth[i]), by_time, false);
+    print_rows("How cost grows (the same figures by size)", growth, sizeof growth / sizeof growth[0], by_time);
+    print_rows("The larger part (16,384 bytes) beside the smaller", larger, sizeof larger / sizeof larger[0], by_time);
+    ok &= print_spared();
     ok &= print_c_quality();
     printf("%s\n", ok ? "every bar holds" : "FAIL: a bar is missed");
     return !ok;

@@ -16,7 +16,28 @@ static void page_write(struct master *m, uint16_t address, size_t count)
 
 static uint16_t some_address(struct master *m)
 {
-    return (uint16_t)master_random(m, 4096);
+    return (uint16_t)master_random(m, m->places);
+}
+
+/* The start of a quarter of the array, or of its second, third, fifth or ninth page: where a locked block may begin or end. */
+static uint32_t edge(const struct master *m, uint32_t which)
+{
+    return which < 4 ? m->places / 4 * which : 64u << (which - 4);
+}
+
+/* An address of this place, with `above` in the bits that the array has no use for. */
+static uint16_t address_of(const struct master *m, uint32_t place, uint32_t above)
+{
+    return (uint16_t)(above * m->places + place % m->places);
+}
+
+/* At an edge or up to two pages before it. */
+static uint16_t near_edge(struct master *m)
+{
+    uint32_t place = edge(m, master_random(m, 8)) + m->places;
+
+    place -= master_random(m, 128);
+    return address_of(m, place, master_random(m, 4));
 }
 
 /* One transaction of the mix. Writes are one in four, since each brings its polling with it. */
@@ -101,10 +122,24 @@ void capture_edges(struct master *m)
         master_lines(m, 1, !m->sda, 4);
 }
 
+void capture_places(struct master *m)
+{
+    master_end_reset(m);
+    master_register(m, 0, 0x02);
+    for (uint32_t which = 0; which < 8; which++)
+        for (uint32_t before = 0; before < 2; before++)
+            for (uint32_t above = 0; above < 2; above++) {
+                uint16_t address = address_of(m, edge(m, which) + m->places - before, above);
+                page_write(m, address, 1);
+                master_address(m, 0, address);
+                master_read(m, 0, 2);
+            }
+}
+
 /* A rough turn is meant to reach every branch of the rules, not to be likely. */
 static void rough_turn(struct master *m, uint8_t own_select)
 {
-    static const uint8_t register_bytes[] = {0x02, 0x06, 0x00, 0x63, 0x02, 0x06, 0x12, 0x1A, 0x83, 0x67, 0x9B, 0x22};
+    static const uint8_t register_bytes[] = {0x02, 0x06, 0x00, 0x63, 0x02, 0x06, 0x12, 0x1A, 0x0A, 0x83, 0x67, 0x9B, 0x22};
     uint8_t select = master_random(m, 8) ? own_select : (uint8_t)master_random(m, 4);
 
     switch (master_random(m, 16)) {
@@ -128,7 +163,7 @@ static void rough_turn(struct master *m, uint8_t own_select)
             master_idle(m, master_random(m, 16), master_random(m, 100001));
         break;
     case 4: /* a byte broken off */
-        master_address(m, select, (uint16_t)master_random(m, 4096));
+        master_address(m, select, some_address(m));
         for (unsigned i = master_random(m, 20); i > 0; i--)
             master_bit(m, (uint8_t)master_random(m, 2));
         if (master_random(m, 2))
@@ -153,15 +188,15 @@ static void rough_turn(struct master *m, uint8_t own_select)
         master_read(m, select, 1 + master_random(m, 3));
         break;
     case 11:
-    case 12: /* addresses with bits above the array's, and near the locked blocks' ends */
-        master_address(m, select, (uint16_t)(master_random(m, 2) << 12 | (master_random(m, 16) * 64 + master_random(m, 64))));
+    case 12:
+        master_address(m, select, near_edge(m));
         data_bytes(m, master_random(m, 80));
         master_stop(m);
         if (master_random(m, 2))
             master_idle(m, 1, 4990 + master_random(m, 20));
         break;
     case 13:
-        master_address(m, select, (uint16_t)(master_random(m, 2) ? 0x0FFF : master_random(m, 65536)));
+        master_address(m, select, (uint16_t)(master_random(m, 2) ? m->places - 1 : master_random(m, 65536)));
         master_read(m, select, 1 + master_random(m, 6));
         break;
     case 14:

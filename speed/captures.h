@@ -12,7 +12,8 @@ void capture_idle(struct master *m);   /* both lines high */
 void capture_reset(struct master *m);  /* the mix with VCC low throughout */
 void capture_edges(struct master *m);  /* a start or a stop at every sample */
 
-/* For comparison only: traffic, mostly to this select, with wrong turns, VCC drops, WP, long waits and noise. */
-void capture_rough(struct master *m, uint8_t select);
+/* For comparison only. */
+void capture_places(struct master *m); /* a byte written and two read at each place where a block may begin or end, and before it */
+void capture_rough(struct master *m, uint8_t select); /* mostly to this select; wrong turns, VCC drops, WP, long waits, noise */
 
 #endif

@@ -1,18 +1,31 @@
 /* Intel's hexadecimal object format, as the rules narrow it. */
 #include "image.h"
 
-#include <stdbool.h>
+#include "kinds.h"
+
 #include <string.h>
 
-enum { ARRAY_BYTES = 4096, MOST_TEXT = 65536, ROW_BYTES = 16, LONGEST_OUT = 11276 };
+enum { MOST_TEXT = 65536, ROW_BYTES = 16 };
 enum { HEAD_BYTES = 4, MOST_RECORD = HEAD_BYTES + 255 + 1, SHORTEST_LINE = 11 };
 enum { DATA = 0, END = 1 };
 
-/* What a text gives, gathered beside the caller's array so that a refusal leaves that alone. */
+/* What a text gives, gathered beside the caller's array so that a refusal leaves that alone. There is room for every part, and a
+ * smaller one uses, clears and copies no more than its own bytes of it. */
 struct image {
-    uint8_t cells[ARRAY_BYTES];
-    bool given[ARRAY_BYTES];
+    size_t bytes;
+    uint8_t cells[LARGER];
+    bool given[LARGER];
 };
+
+/* Here as in copying, pieces of a length that the compiler knows cost fewer instructions than one of a length that it does not. */
+static void clear(struct image *image, size_t bytes)
+{
+    image->bytes = bytes;
+    for (size_t at = 0; at < bytes; at += SMALLER) {
+        memset(image->cells + at, 0xFF, SMALLER);
+        memset(image->given + at, 0, SMALLER);
+    }
+}
 
 static int digit(uint8_t c)
 {
@@ -70,7 +83,7 @@ static unsigned take_record(struct image *image, const uint8_t *record)
 
     if (type > END || (type == END && (count != 0 || address != 0)))
         return 14;
-    if (count > 0 && address + count > ARRAY_BYTES)
+    if (count > 0 && address + count > image->bytes)
         return 15;
     for (unsigned i = 0; i < count; i++) {
         if (image->given[address + i])
@@ -106,21 +119,29 @@ static unsigned read_text(const uint8_t *text, size_t text_len, struct image *im
     return 17;
 }
 
-uint8_t cimage_read(const uint8_t *text, size_t text_len, uint8_t *array, size_t array_len, uint64_t *reply, size_t reply_len)
+/* 1 and 5: what reading and writing refuse first. */
+static unsigned call_refusal(const struct kind *kind, size_t array_len)
 {
+    return kind == NULL ? 1 : array_len != kind->bytes ? 5 : 0;
+}
+
+uint8_t cimage_read(uint16_t part, const uint8_t *text, size_t text_len, uint8_t *array, size_t array_len,
+                    uint64_t *reply, size_t reply_len)
+{
+    const struct kind *kind = kind_of(part);
     struct image image;
 
     if (reply_len != 2)
         return 0;
-    reply[0] = 5;
+    reply[0] = call_refusal(kind, array_len);
     reply[1] = 0;
-    if (array_len != ARRAY_BYTES)
+    if (reply[0] != 0)
         return 1;
-    memset(image.cells, 0xFF, sizeof image.cells);
-    memset(image.given, 0, sizeof image.given);
+    clear(&image, kind->bytes);
     reply[0] = read_text(text, text_len, &image, &reply[1]);
     if (reply[0] == 0) {
-        memcpy(array, image.cells, ARRAY_BYTES);
+        for (size_t at = 0; at < image.bytes; at += SMALLER)
+            memcpy(array + at, image.cells + at, SMALLER);
         reply[1] = text_len;
     }
     return 1;
@@ -160,20 +181,27 @@ static bool blank(const uint8_t *row)
     return all == 0xFF;
 }
 
-uint8_t cimage_write(const uint8_t *array, size_t array_len, uint8_t *out, size_t out_len, uint64_t *reply, size_t reply_len)
+static uint8_t *put_image(uint8_t *out, const uint8_t *array, size_t bytes)
 {
-    uint8_t *end = out;
+    for (size_t row = 0; row < bytes; row += ROW_BYTES)
+        if (!blank(array + row))
+            out = put_record(out, (unsigned)row, DATA, array + row, ROW_BYTES);
+    return put_record(out, 0, END, NULL, 0);
+}
+
+uint8_t cimage_write(uint16_t part, const uint8_t *array, size_t array_len, uint8_t *out, size_t out_len,
+                     uint64_t *reply, size_t reply_len)
+{
+    const struct kind *kind = kind_of(part);
 
     if (reply_len != 2)
         return 0;
-    reply[0] = array_len != ARRAY_BYTES ? 5 : out_len < LONGEST_OUT ? 19 : 0;
+    reply[0] = call_refusal(kind, array_len);
     reply[1] = 0;
+    if (reply[0] == 0 && out_len < kind->text)
+        reply[0] = 19;
     if (reply[0] != 0)
         return 1;
-    for (unsigned row = 0; row < ARRAY_BYTES; row += ROW_BYTES)
-        if (!blank(array + row))
-            end = put_record(end, row, DATA, array + row, ROW_BYTES);
-    end = put_record(end, 0, END, NULL, 0);
-    reply[1] = (uint64_t)(end - out);
+    reply[1] = (uint64_t)(put_image(out, array, kind->bytes) - out);
     return 1;
 }

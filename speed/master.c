@@ -3,10 +3,10 @@
 
 enum { SET = 3, RISE = 3, FALL = 4, WRITE_TIME = 5000 };
 
-void master_begin(struct master *m, uint32_t *elapsed, uint8_t *levels, size_t room, uint32_t seed)
+void master_begin(struct master *m, uint32_t *elapsed, uint8_t *levels, size_t room, uint32_t places, uint32_t seed)
 {
-    *m = (struct master){.elapsed = elapsed, .levels = levels, .room = room, .pins = VCC_GOOD, .scl = 1, .sda = 1,
-                         .random = seed * 2654435761u | 1};
+    *m = (struct master){.elapsed = elapsed, .levels = levels, .room = room, .places = places, .pins = VCC_GOOD,
+                         .scl = 1, .sda = 1, .random = seed * 2654435761u | 1};
 }
 
 bool master_full(const struct master *m)

@@ -13,13 +13,14 @@ struct master {
     uint32_t *elapsed;
     uint8_t *levels;
     size_t room, length; /* samples beyond the room are lost: a capture is cut where it is full */
+    uint32_t places;     /* of the array that it talks to */
     uint8_t pins;        /* WP and VCC, as they stand in every sample */
     uint8_t scl, sda;
     uint32_t random;
     uint64_t clock; /* microseconds since the first sample */
 };
 
-void master_begin(struct master *m, uint32_t *elapsed, uint8_t *levels, size_t room, uint32_t seed);
+void master_begin(struct master *m, uint32_t *elapsed, uint8_t *levels, size_t room, uint32_t places, uint32_t seed);
 bool master_full(const struct master *m);
 uint32_t master_random(struct master *m, uint32_t below);
 

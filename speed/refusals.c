@@ -6,11 +6,6 @@ static struct refusal refused(uint64_t number, uint64_t place)
     return (struct refusal){number, place};
 }
 
-static bool part_known(uint16_t part)
-{
-    return part == 4323 || part == 4325;
-}
-
 static bool latches_stored(uint8_t stored)
 {
     return stored & (RWEL | WEL);
@@ -18,7 +13,7 @@ static bool latches_stored(uint8_t stored)
 
 struct refusal power_up_refusal(uint16_t part, uint8_t select, uint8_t stored)
 {
-    if (!part_known(part))
+    if (kind_of(part) == NULL)
         return refused(1, 0);
     if (select > 3)
         return refused(2, 0);
@@ -29,8 +24,10 @@ struct refusal power_up_refusal(uint16_t part, uint8_t select, uint8_t stored)
 
 static bool in_range(const struct twin *s)
 {
-    return s->counter < ARRAY_BYTES && s->committed <= 8 && s->write_left <= WRITE_TIME && s->hold <= RESET_HOLD &&
-           s->watchdog_left <= LONGEST_WATCHDOG && part_known(s->part) && s->select <= 3 && !latches_stored(s->stored);
+    const struct kind *kind = kind_of(s->kind.part);
+
+    return kind != NULL && s->counter < kind->bytes && s->committed <= 8 && s->write_left <= WRITE_TIME &&
+           s->hold <= RESET_HOLD && s->watchdog_left <= LONGEST_WATCHDOG && s->select <= 3 && !latches_stored(s->stored);
 }
 
 struct refusal replay_refusal(const struct twin *s, const uint32_t *elapsed, size_t elapsed_len,
@@ -38,7 +35,7 @@ struct refusal replay_refusal(const struct twin *s, const uint32_t *elapsed, siz
 {
     if (!in_range(s))
         return refused(4, 0);
-    if (array_len != ARRAY_BYTES)
+    if (array_len != s->kind.bytes)
         return refused(5, 0);
     if (elapsed_len != levels_len)
         return refused(6, 0);

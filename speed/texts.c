@@ -2,14 +2,14 @@
 
 #include <string.h>
 
-enum { ARRAY_BYTES = 4096, ROW_BYTES = 16, EMPTY_LINE = 12 };
+enum { ROW_BYTES = 16, EMPTY_LINE = 12 };
 
-void fill_array(uint8_t *array, unsigned every, uint32_t seed)
+void fill_array(uint8_t *array, size_t bytes, unsigned every, uint32_t seed)
 {
     uint32_t random = seed * 2654435761u;
 
-    memset(array, 0xFF, ARRAY_BYTES);
-    for (unsigned i = 0; i < ARRAY_BYTES; i++) {
+    memset(array, 0xFF, bytes);
+    for (size_t i = 0; i < bytes; i++) {
         random = random * 1664525 + 1013904223;
         if (every != 0 && i / ROW_BYTES % every == 0)
             array[i] = (uint8_t)(random >> 24);
@@ -24,7 +24,7 @@ static void put_hex(uint8_t **at, unsigned byte)
     }
 }
 
-static uint8_t *put_line(uint8_t *at, unsigned address, unsigned type, const uint8_t *data, unsigned count)
+uint8_t *put_line(uint8_t *at, unsigned address, unsigned type, const uint8_t *data, unsigned count)
 {
     unsigned sum = count + (address >> 8) + address + type;
 
@@ -42,13 +42,13 @@ static uint8_t *put_line(uint8_t *at, unsigned address, unsigned type, const uin
     return at;
 }
 
-size_t make_text(uint8_t *text, size_t room, const uint8_t *array, unsigned per_record)
+size_t make_text(uint8_t *text, size_t room, const uint8_t *array, size_t bytes, unsigned per_record)
 {
     const size_t line = EMPTY_LINE + 2 * per_record;
     uint8_t *at = text, *end = text + room - EMPTY_LINE;
     unsigned address = 0;
 
-    for (; address + per_record <= ARRAY_BYTES && (size_t)(end - at) >= line; address += per_record)
+    for (; address + per_record <= bytes && (size_t)(end - at) >= line; address += per_record)
         at = put_line(at, address, 0, array + address, per_record);
     while ((size_t)(end - at) >= EMPTY_LINE)
         at = put_line(at, address, 0, NULL, 0);

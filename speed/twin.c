@@ -5,10 +5,10 @@
 
 #include <string.h>
 
-static void power_up(struct twin *s, uint16_t part, uint8_t select, uint8_t stored)
+static void power_up(struct twin *s, const struct kind *kind, uint8_t select, uint8_t stored)
 {
     memset(s, 0, sizeof *s);
-    s->part = part;
+    s->kind = *kind;
     s->select = select;
     s->stored = stored;
     s->hold = RESET_HOLD;
@@ -65,11 +65,17 @@ static void drop_talk(struct twin *s, enum phase next)
     s->phase = next;
 }
 
+/* A place of the array: the low bits of a number, as many as the part's places have. */
+static uint16_t place(const struct twin *s, unsigned number)
+{
+    return (uint16_t)(number & (s->kind.bytes - 1));
+}
+
 static bool locked(const struct twin *s)
 {
     unsigned code = (s->stored & 1u) << 2 | (s->stored >> 3 & 3u); /* BP2 BP1 BP0 */
     if (code < 3)
-        return false;
+        return s->counter >= s->kind.upper[code];
     if (code == 3)
         return true;
     return s->counter < PAGE_BYTES << (code - 4);
@@ -140,7 +146,7 @@ static void receive(struct twin *s, uint8_t byte)
     case ADDRESS_LOW:
         s->register_chosen = s->address_high == 0xFF && byte == 0xFF;
         if (!s->register_chosen)
-            s->counter = (s->address_high << 8 | byte) & (ARRAY_BYTES - 1);
+            s->counter = place(s, (unsigned)s->address_high << 8 | byte);
         acknowledge(s, s->register_chosen ? REGISTER_DATA : ARRAY_DATA);
         break;
     case ARRAY_DATA:
@@ -176,7 +182,7 @@ static void send(struct twin *s, uint8_t byte, enum phase phase)
 static void fetch(struct twin *s, const uint8_t *array)
 {
     uint8_t byte = array[s->counter];
-    s->counter = (uint16_t)((s->counter + 1) % ARRAY_BYTES);
+    s->counter = place(s, s->counter + 1u);
     send(s, byte, READ_ARRAY);
 }
 
@@ -260,7 +266,7 @@ static uint8_t step(struct twin *s, uint8_t *array, uint32_t e, uint8_t level)
     }
     s->scl = scl;
     s->sda = line;
-    bool pin = s->reset == (s->part == 4325);
+    bool pin = s->reset == s->kind.reset_high;
     return (uint8_t)(s->own | pin << 1 | (s->write_left > 0) << 2);
 }
 
@@ -278,7 +284,7 @@ uint8_t ctwin_replay(uint16_t part, uint8_t select, uint8_t stored,
         return 0;
     refusal = power_up_refusal(part, select, stored);
     if (refusal.number == 0) {
-        power_up(&s, part, select, stored);
+        power_up(&s, kind_of(part), select, stored);
         refusal = replay_refusal(&s, elapsed, elapsed_len, levels, levels_len, array_len, answers_len);
     }
     if (refusal.number == 0)

@@ -1,4 +1,5 @@
-/* A C twin of the X4323 and X4325, written from the rules alone: the measure that the proved code is held against. */
+/* A C twin of the X4323 and X4325 and of their larger sisters X4283 and X4285, written from the rules alone: the measure that
+ * the proved code is held against. */
 #ifndef TWIN_H
 #define TWIN_H
 

@@ -1,7 +1,8 @@
-/* The bench cases P1 to P9 and a few more on the C twin, each worked out by hand from the rules: a twin that is wrong measures nothing.
- * What the state holds is seen from outside, by the answers and by reading back. */
+/* The bench cases P1 to P9, the larger part's rules and a few more on the C twin, each worked out by hand from the papers: a twin
+ * that is wrong measures nothing. What the state holds is seen from outside, by the answers and by reading back. */
 #include "master.h"
 #include "twin.h"
+#include "twin_state.h"
 
 #include <stdio.h>
 #include <string.h>
@@ -9,7 +10,7 @@
 enum { ROOM = 65536, OWN_SDA = 1, PIN = 2, WRITING = 4 };
 
 static uint32_t elapsed[ROOM];
-static uint8_t levels[ROOM], answers[ROOM], array[4096];
+static uint8_t levels[ROOM], answers[ROOM], array[LARGER];
 static int failures;
 
 static void expect(bool holds, const char *what)
@@ -22,14 +23,15 @@ static void expect(bool holds, const char *what)
 
 static void begin(struct master *m)
 {
-    master_begin(m, elapsed, levels, ROOM, 1);
+    master_begin(m, elapsed, levels, ROOM, LARGER, 1);
     memset(array, 0xFF, sizeof array);
 }
 
 static void replay(const struct master *m, uint16_t part, uint8_t stored)
 {
     uint64_t reply[2];
-    ctwin_replay(part, 0, stored, elapsed, m->length, levels, m->length, array, sizeof array, answers, m->length, reply, 2);
+    size_t array_len = part == 4323 || part == 4325 ? 4096 : 16384;
+    ctwin_replay(part, 0, stored, elapsed, m->length, levels, m->length, array, array_len, answers, m->length, reply, 2);
     expect(reply[0] == 0 && reply[1] == m->length, "a capture is accepted with its length");
 }
 
@@ -49,71 +51,97 @@ static bool acknowledged(size_t end)
     return !(answers[end - 2] & OWN_SDA);
 }
 
-static void p1(void)
-{
-    for (unsigned x4325 = 0; x4325 < 2; x4325++) {
-        struct master m;
-        begin(&m);
-        master_idle(&m, 1, 70000); /* the low-VCC flag is still set: nothing falls */
-        master_idle(&m, 1, 100000);
-        master_idle(&m, 1, 99999);
-        master_idle(&m, 1, 1);
-        replay(&m, x4325 ? 4325 : 4323, 0x60);
-        uint8_t active = x4325 ? PIN : 0;
-        expect((answers[0] & PIN) == active && (answers[1] & PIN) == active, "P1 reset holds");
-        expect((answers[2] & PIN) == active, "P1 199,999 keeps reset");
-        expect((answers[3] & PIN) != active, "P1 200,000 ends it");
-    }
-}
-
-/* Tries a byte at an address under a block code, stored at power-up, and answers whether it was acknowledged. */
-static bool writable(uint8_t code, uint16_t address)
+static void p1(uint16_t part, uint8_t active)
 {
     struct master m;
-    size_t sent;
-    uint8_t stored = (uint8_t)(0x60 | (code & 3) << 3 | code >> 2);
+    begin(&m);
+    master_idle(&m, 1, 70000); /* the low-VCC flag is still set: nothing falls */
+    master_idle(&m, 1, 100000);
+    master_idle(&m, 1, 99999);
+    master_idle(&m, 1, 1);
+    replay(&m, part, 0x60);
+    expect((answers[0] & PIN) == active && (answers[1] & PIN) == active, "P1 reset holds");
+    expect((answers[2] & PIN) == active, "P1 199,999 keeps reset");
+    expect((answers[3] & PIN) != active, "P1 200,000 ends it");
+}
 
+/* Tries a byte at an address, with this stored control byte at power-up, and answers whether it was acknowledged. `place` is
+ * where it belongs. */
+static bool stored_at(uint16_t part, uint8_t stored, uint16_t address, uint16_t place)
+{
+    struct master m;
     begin(&m);
     master_end_reset(&m);
     master_register(&m, 0, 0x02);
     master_address(&m, 0, address);
     master_send(&m, 0x5A);
-    sent = m.length;
+    size_t sent = m.length;
     master_stop(&m);
-    replay(&m, 4323, stored);
-    bool kept = array[address & 0xFFF] == 0x5A;
-    expect(kept == acknowledged(sent), "a byte is kept exactly when it was acknowledged");
+    replay(&m, part, stored);
+    bool kept = array[place] == 0x5A;
+    expect(kept == acknowledged(sent), "a byte is kept, at its place, exactly when it was acknowledged");
     expect(kept == !!(answers[m.length - 1] & WRITING), "a kept byte takes a write cycle");
     return kept;
 }
 
-static void p2_to_p4(void)
+/* The same at an address below the part's size, under a block code. */
+static bool writable(uint16_t part, uint8_t code, uint16_t address)
 {
-    expect(!writable(4, 0x03F) && writable(4, 0x040), "P2");
-    expect(!writable(7, 0x1FF) && writable(7, 0x200), "P3");
-    expect(writable(2, 0x000) && writable(2, 0xFFF), "P4");
-    expect(!writable(3, 0x000) && !writable(3, 0xFFF) && !writable(3, 0x1FFF), "code 3 locks everything");
-    expect(writable(4, 0x0FFF) && writable(4, 0x1FFF), "0FFFh and 1FFFh are one place");
+    return stored_at(part, (uint8_t)(0x60 | (code & 3) << 3 | code >> 2), address, address);
 }
 
-static void p5(void)
+static void p2_to_p4(uint16_t part)
+{
+    expect(writable(part, 0, 0x000) && writable(part, 0, 0xFFF), "code 0 locks nothing");
+    expect(!writable(part, 4, 0x000) && !writable(part, 4, 0x03F) && writable(part, 4, 0x040), "P2");
+    expect(!writable(part, 5, 0x07F) && writable(part, 5, 0x080), "code 5 locks two pages");
+    expect(!writable(part, 6, 0x0FF) && writable(part, 6, 0x100), "code 6 locks four");
+    expect(!writable(part, 7, 0x000) && !writable(part, 7, 0x1FF) && writable(part, 7, 0x200), "P3");
+    expect(writable(part, 2, 0x000) && writable(part, 2, 0xFFF), "P4, and the same places on the larger part");
+    expect(writable(part, 1, 0x000) && writable(part, 1, 0xFFF), "code 1 locks none of the first 4,096 bytes");
+    expect(!writable(part, 3, 0x000) && !writable(part, 3, 0xFFF), "code 3 locks everything");
+}
+
+/* Addresses above the array: 60h stores code 0, 61h code 4, 68h code 1, 70h code 2, 78h code 3. */
+static void smaller_places(uint16_t part)
+{
+    expect(stored_at(part, 0x60, 0x1FFF, 0xFFF) && stored_at(part, 0x61, 0x1FFF, 0xFFF), "0FFFh and 1FFFh are one place");
+    expect(stored_at(part, 0x60, 0x3000, 0) && stored_at(part, 0x60, 0xFFFE, 0xFFE), "a counter of 12 bits");
+    expect(stored_at(part, 0x68, 0x3000, 0) && stored_at(part, 0x68, 0x3FFF, 0xFFF), "code 1 locks nothing on the smaller part");
+    expect(stored_at(part, 0x70, 0x2000, 0) && stored_at(part, 0x70, 0x3FFF, 0xFFF), "code 2 locks nothing on the smaller part");
+    expect(!stored_at(part, 0x78, 0x1FFF, 0xFFF) && !stored_at(part, 0x61, 0x1000, 0), "a place is locked by its low 12 bits");
+}
+
+static void larger_places(uint16_t part)
+{
+    expect(writable(part, 0, 0x1FFF) && writable(part, 0, 0x2000) && writable(part, 0, 0x3FFF), "a counter of 14 bits");
+    expect(stored_at(part, 0x60, 0x4000, 0) && stored_at(part, 0x60, 0xBFFF, 0x3FFF) && stored_at(part, 0x60, 0xFFFE, 0x3FFE),
+           "a counter of no more than 14 bits");
+    expect(writable(part, 1, 0x2FFF) && !writable(part, 1, 0x3000) && !writable(part, 1, 0x3FFF), "code 1 locks 3000h to 3FFFh");
+    expect(writable(part, 2, 0x1FFF) && !writable(part, 2, 0x2000) && !writable(part, 2, 0x3FFF), "code 2 locks 2000h to 3FFFh");
+    expect(!stored_at(part, 0x68, 0x7000, 0x3000) && stored_at(part, 0x68, 0x4000, 0), "a place is locked by its low 14 bits");
+    expect(!writable(part, 3, 0x1000) && !writable(part, 3, 0x3FFF), "code 3 locks everything");
+    expect(writable(part, 4, 0x1000) && writable(part, 7, 0x3FFF), "codes 4 to 7 lock first pages only");
+}
+
+static void p5(uint16_t part, uint16_t page)
 {
     struct master m;
     begin(&m);
     for (unsigned i = 0; i < 64; i++)
-        array[128 + i] = (uint8_t)(0x80 + i);
+        array[page + i] = (uint8_t)(0x80 + i);
     master_end_reset(&m);
     master_register(&m, 0, 0x02);
-    master_address(&m, 0, 128 + 60);
+    master_address(&m, 0, (uint16_t)(page + 60));
     for (uint8_t i = 0; i < 12; i++)
         master_send(&m, i);
     master_stop(&m);
     master_poll(&m, 0);
     master_read(&m, 0, 1);
-    replay(&m, 4323, 0x60);
+    replay(&m, part, 0x60);
     for (unsigned i = 0; i < 64; i++) {
         unsigned want = i >= 60 ? i - 60 : i < 8 ? i + 4 : 0x80 + i;
-        expect(array[128 + i] == want, "P5 page");
+        expect(array[page + i] == want, "P5 page");
     }
     expect(byte_read(m.length) == 0x88, "P5 counter at 8");
 }
@@ -133,7 +161,7 @@ static void p6(void)
 }
 
 /* 02h, 06h and a third byte, then the register read once its write time is over. */
-static uint8_t register_after(uint8_t third)
+static uint8_t register_after(uint16_t part, uint8_t third)
 {
     struct master m;
     begin(&m);
@@ -144,14 +172,15 @@ static uint8_t register_after(uint8_t third)
     master_poll(&m, 0);
     master_address(&m, 0, 0xFFFF);
     master_read(&m, 0, 1);
-    replay(&m, 4323, 0x00);
+    replay(&m, part, 0x00);
     return byte_read(m.length);
 }
 
-static void p7_p8(void)
+static void p7_p8(uint16_t part)
 {
-    expect(register_after(0x63) == 0x63, "P7");
-    expect(register_after(0x67) == 0x06, "P8");
+    expect(register_after(part, 0x63) == 0x63, "P7");
+    expect(register_after(part, 0x67) == 0x06, "P8");
+    expect(register_after(part, 0x9A) == 0x9A, "WPEN, WD and BP are taken from the third byte");
 }
 
 static void p9(void)
@@ -197,8 +226,8 @@ static void rwel_needs_wel(void)
     expect(byte_read(m.length) == 0x60, "06h with WEL low sets nothing");
 }
 
-/* Two bytes from the last place of a page, and from the last of the array; the second one is read back on its own. */
-static void reads_go_on(uint16_t from, uint16_t next)
+/* Two bytes from this address on; the second one, fetched from `next`, is read back on its own. */
+static void reads_go_on(uint16_t part, uint16_t from, uint16_t next)
 {
     struct master m;
     begin(&m);
@@ -207,23 +236,63 @@ static void reads_go_on(uint16_t from, uint16_t next)
     master_address(&m, 0, from);
     master_read(&m, 0, 1);
     master_read(&m, 0, 1);
-    replay(&m, 4323, 0x60);
-    expect(byte_read(m.length) == 0x3C, "a read goes on past its page");
+    replay(&m, part, 0x60);
+    expect(byte_read(m.length) == 0x3C, "a read goes on past its page, and from the last place to the first");
+}
+
+/* The refusal of a state, powered up but for its counter, and an array of this length. */
+static uint64_t refusal(uint16_t part, uint16_t counter, size_t array_len)
+{
+    struct twin s = {.kind = *kind_of(part), .counter = counter};
+    return replay_refusal(&s, elapsed, 0, levels, 0, array_len, 0).number;
+}
+
+static void refusals_by_size(void)
+{
+    static const uint16_t none[] = {0, 4282, 4284, 4286, 4322, 4324, 4326, 65535};
+    struct twin unknown = {.kind = {.part = 4284, .bytes = 16384}};
+
+    for (unsigned i = 0; i < sizeof none / sizeof none[0]; i++)
+        expect(power_up_refusal(none[i], 4, 0x06).number == 1, "refusal 1");
+    expect(replay_refusal(&unknown, elapsed, 0, levels, 0, 16384, 0).number == 4, "refusal 4: a state of no part");
+    for (uint16_t high = 0; high <= 2; high += 2) {
+        uint16_t smaller = (uint16_t)(4323 + high), larger = (uint16_t)(4283 + high);
+        expect(power_up_refusal(smaller, 0, 0).number == 0 && power_up_refusal(larger, 0, 0).number == 0, "four parts");
+        expect(refusal(smaller, 4095, 4096) == 0 && refusal(smaller, 4096, 4096) == 4, "refusal 4, smaller part");
+        expect(refusal(larger, 16383, 16384) == 0 && refusal(larger, 16384, 16384) == 4, "refusal 4, larger part");
+        expect(refusal(smaller, 0, 16384) == 5 && refusal(smaller, 0, 4095) == 5, "refusal 5, smaller part");
+        expect(refusal(larger, 0, 4096) == 5 && refusal(larger, 0, 16385) == 5, "refusal 5, larger part");
+        expect(refusal(smaller, 4096, 16384) == 4, "refusal 4 comes before 5");
+    }
 }
 
 int main(void)
 {
-    p1();
-    p2_to_p4();
-    p5();
+    p1(4323, 0);
+    p1(4325, PIN);
+    p1(4283, 0);
+    p1(4285, PIN);
+    for (uint16_t high = 0; high <= 2; high += 2) { /* 4323 and 4283, then 4325 and 4285 */
+        uint16_t smaller = (uint16_t)(4323 + high), larger = (uint16_t)(4283 + high);
+        p2_to_p4(smaller);
+        p2_to_p4(larger);
+        smaller_places(smaller);
+        larger_places(larger);
+        p5(smaller, 0x0080);
+        p5(larger, 0x0080);
+        p5(larger, 0x3FC0);
+        p7_p8(smaller);
+        p7_p8(larger);
+        reads_go_on(smaller, 0x003F, 0x0040);
+        reads_go_on(smaller, 0x0FFF, 0x0000);
+        reads_go_on(larger, 0x0FFF, 0x1000);
+        reads_go_on(larger, 0x3FFF, 0x0000);
+    }
     p6();
-    p7_p8();
     p9();
-    expect(register_after(0x9A) == 0x9A, "WPEN, WD and BP are taken from the third byte");
     wel_low();
     rwel_needs_wel();
-    reads_go_on(0x03F, 0x040);
-    reads_go_on(0xFFF, 0x000);
-    printf(failures ? "the C twin fails its own cases\n" : "the C twin keeps P1 to P9\n");
+    refusals_by_size();
+    printf(failures ? "the C twin fails its own cases\n" : "the C twin keeps P1 to P9, on both sizes\n");
     return failures != 0;
 }

@@ -2,11 +2,9 @@
 #ifndef TWIN_STATE_H
 #define TWIN_STATE_H
 
-#include <stdbool.h>
-#include <stddef.h>
-#include <stdint.h>
+#include "kinds.h"
 
-enum { ARRAY_BYTES = 4096, PAGE_BYTES = 64, MOST_SAMPLES = 65536, MOST_ELAPSED = 100000, MOST_LEVEL = 15 };
+enum { PAGE_BYTES = 64, MOST_SAMPLES = 65536, MOST_ELAPSED = 100000, MOST_LEVEL = 15 };
 enum { WRITE_TIME = 5000, RESET_HOLD = 200000, LONGEST_WATCHDOG = 1400000 };
 enum { SCL = 1, SDA = 2, WP = 4, VCC = 8 };
 enum { WPEN = 0x80, RWEL = 0x04, WEL = 0x02, NONVOLATILE = 0xF9 };
@@ -15,7 +13,7 @@ enum { WPEN = 0x80, RWEL = 0x04, WEL = 0x02, NONVOLATILE = 0xF9 };
 enum phase { QUIET, SLAVE, ADDRESS_HIGH, ADDRESS_LOW, ARRAY_DATA, REGISTER_DATA, READ_TURN, READ_ARRAY, READ_REGISTER };
 
 struct twin {
-    uint16_t part;
+    struct kind kind; /* a copy, so that a step finds it beside the rest */
     uint8_t select;
     uint8_t stored; /* the control byte without its two latches */
     bool wel, rwel;

@@ -1,19 +1,23 @@
 """Bus traffic for `shown` and `sigrok`: a host that gives samples, and what the rules say of every byte it sends or reads."""
-SIZE, PAGE, WRITE_TIME = 4096, 64, 5000
+PAGE, WRITE_TIME = 64, 5000
 REGISTER = 0xFFFF
+SIZES = {4323: 4096, 4325: 4096, 4283: 16_384, 4285: 16_384}  # bytes of each part's array
+RESET_HIGH = (4325, 4285)  # parts whose RESET pin is high when active
 
 
 class Part:
     """What the rules say of whole bytes. It knows no bits and no samples: those are the program's and the decoder's task."""
 
     def __init__(self, select, stored, array):
-        self.slave, self.control, self.array = 0x50 | select, stored, bytearray(array)
+        self.slave, self.control, self.array, self.size = 0x50 | select, stored, bytearray(array), len(array)
         self.counter, self.wel, self.rwel, self.busy_until, self.chosen = 0, False, False, 0, False
         self.mode, self.load, self.pending = "idle", {}, None
 
     def locked(self, place):
         code = (self.control & 1) << 2 | self.control >> 3 & 3
-        return place < PAGE * {3: 64, 4: 1, 5: 2, 6: 4, 7: 8}.get(code, 0)
+        if code in (1, 2):  # a block at the end, on the larger parts only
+            return place >= {1: 0x3000, 2: 0x2000}[code]
+        return code == 3 or place < PAGE * {4: 1, 5: 2, 6: 4, 7: 8}.get(code, 0)
 
     def register(self):
         return self.control | self.rwel << 2 | self.wel << 1
@@ -32,7 +36,7 @@ class Part:
         elif mode == "low":
             self.mode, address = "data", self.high << 8 | value
             self.chosen = address == REGISTER
-            self.counter = self.counter if self.chosen else address % SIZE
+            self.counter = self.counter if self.chosen else address % self.size
         elif mode == "data" and self.chosen:
             self.mode, self.pending = ("data", value) if self.pending is None else ("silent", None)
         elif mode == "data" and self.wel and not self.locked(self.counter):
@@ -49,7 +53,7 @@ class Part:
             self.chosen = False
             return self.register()
         value = self.array[self.counter]
-        self.counter = (self.counter + 1) % SIZE
+        self.counter = (self.counter + 1) % self.size
         return value
 
     def stop(self, now, wp):
@@ -183,9 +187,10 @@ class Host:
             self.lines(1, 1, end - self.now)
 
 
-def address_near(rng):
-    """Any address, and often one shortly before the end of a page or of the array."""
-    return rng.choice((rng.randrange(SIZE), rng.randrange(64) * PAGE + rng.randint(52, 63), SIZE - rng.randint(1, 12),
+def address_near(rng, size):
+    """Any address, and often one shortly before the end of a page, of the array or of a fourth of it, where blocks may begin."""
+    near = size // 4 * rng.randint(1, 3) + rng.randint(-12, 11)
+    return rng.choice((rng.randrange(size), rng.randrange(size // PAGE) * PAGE + rng.randint(52, 63), size - rng.randint(1, 12), near,
                        rng.randrange(8 * PAGE)))
 
 
@@ -196,24 +201,25 @@ def some(rng, most):
 def sound(host, rng):
     if not host.part.wel:
         return host.write(REGISTER, [0x02])
-    what = rng.randrange(6)
+    what, size = rng.randrange(6), host.part.size
     if what < 2:
-        host.write(address_near(rng), rng.randbytes(some(rng, 70)))
+        host.write(address_near(rng, size), rng.randbytes(some(rng, 70)))
         host.ready()
     elif what < 4:
-        host.read(some(rng, 90), address_near(rng))
+        host.read(some(rng, 90), address_near(rng, size))
     else:
         host.read(1 if what == 4 else some(rng, 90))
 
 
 def mixed(host, rng):
     part, what = host.part, rng.randrange(14)
+    near = address_near(rng, part.size)
     host.wp = rng.randrange(2)
     other = rng.choice([slave for slave in range(128) if slave != part.slave] + [part.slave ^ 1 << bit for bit in range(7)] * 9)
     if what < 4:
-        host.write(address_near(rng) | rng.choice((0, 0, 0x1000, 0xE000)), rng.randbytes(some(rng, 70)), go_on=rng.random() < 0.3)
+        host.write(near | rng.choice((0, 0, part.size, 0x10000 - 2 * part.size)), rng.randbytes(some(rng, 70)), go_on=rng.random() < 0.3)
     elif what == 4:
-        host.read(some(rng, 90), address_near(rng))
+        host.read(some(rng, 90), near)
     elif what == 5:
         host.read(some(rng, 30))
     elif what == 6:
@@ -226,13 +232,13 @@ def mixed(host, rng):
     elif what == 9:
         host.write(REGISTER, rng.randbytes(rng.randint(2, 3)), go_on=rng.random() < 0.5)
     elif what == 10:
-        host.write(address_near(rng), rng.randbytes(3), slave=other << 1, go_on=rng.random() < 0.5)
+        host.write(near, rng.randbytes(3), slave=other << 1, go_on=rng.random() < 0.5)
     elif what == 11:
         host.read(rng.randint(1, 3), slave=other)
     elif what == 12:
-        host.write(rng.choice((REGISTER, address_near(rng))), [], stop=True)
+        host.write(rng.choice((REGISTER, near)), [], stop=True)
     else:  # A start instead of the stop: what was loaded, or the register byte, is dropped.
-        host.write(rng.choice((REGISTER, address_near(rng))), rng.randbytes(rng.randint(1, 3)), stop=False)
+        host.write(rng.choice((REGISTER, near)), rng.randbytes(rng.randint(1, 3)), stop=False)
         host.read(some(rng, 5))
     host.wp = rng.randrange(2)
     if rng.random() < 0.8:

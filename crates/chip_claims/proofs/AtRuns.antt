@@ -54,6 +54,7 @@ third-bit = refl
 
 -- The claims at the runs.
 pub runs-from : Occurs → ReplayDemand3 → PowerDemand3 → ComputedForm → HandedOut → FitAgain → CutAnywhere → AtRuns
+unfolding kindOf
 runs-from o replay3 power3 form handed fit cut =
     record {
       read = λ r q xs ys said said₂ x y. compares replay3 o readIt (o .read .taken) r q xs ys said said₂ x y .reached 126 (o .read .reached);

@@ -1,12 +1,13 @@
--- Demand 3 is not empty: runs that reach an unequal bit, that are covered before, and that do neither. Two X4323 of select 0,
--- whose arrays of 4,096 bytes differ at one address in one bit (demand 3; document 01, State and time, a byte being sent).
+-- Demand 3 is not empty: runs that reach an unequal bit, that are covered before, and that do neither. Two parts of select 0, X4323 or
+-- X4283, whose arrays differ at one address in one bit (demand 3; document 01, State and time, a byte being sent).
 -- For a person from the line: recordings in which the two chips can be told apart, and such in which they cannot, with the sample at which it happens.
 use Prim.Native.Nat.{ℕ}
 use mathlib.Core.Bool.{Bool, true, false}
 use mathlib.Core.List.{List, [], _∷_, _++_}
 use mathlib.Core.Path.{_≡_}
 use lib.ListN.{length, set, replicate}
-use Rattle.ground.specs.Numbers.{x4323, smallSize, writeTime}
+use Rattle.ground.specs.Numbers.{x4323, x4283, writeTime}
+use Rattle.ground.specs.Kind.{kindOf}
 use Rattle.sample.specs.Run.{Part, partStep}
 use Rattle.power.specs.Power.{atPower}
 use Rattle.demand3.specs.Sending.{nothing}
@@ -19,33 +20,49 @@ use Rattle.demand3_runs.specs.Under.{Step, holdsFor}
 abbrev pub spot : ℕ
 spot = 0x0345
 
--- A part at power-up with a stored control byte, its array all FFh but for the address (State and time, power-up).
-abbrev pub holdingAt : ℕ → ℕ → Part
-holdingAt stored v = atPower x4323 0 stored (set (replicate smallSize 0xFF) spot v)
+-- An address that only the larger part has.
+abbrev pub farSpot : ℕ
+farSpot = 0x1345
 
--- One part holds 0100 1100 at the address, nothing is locked.
+-- A part at power-up with a stored control byte, its array all FFh but for an address (State and time, power-up).
+abbrev pub holdingAt : ℕ → ℕ → ℕ → ℕ → Part
+holdingAt part stored a v = atPower part 0 stored (set (replicate (kindOf part .size) 0xFF) a v)
+
+-- One part, an X4323, holds 0100 1100 at the address, nothing is locked.
 abbrev pub left : Part
-left = holdingAt 0x00 0x4C
+left = holdingAt x4323 0x00 spot 0x4C
 
 -- The other holds 0101 1100: the fourth bit is unequal.
 abbrev pub right : Part
-right = holdingAt 0x00 0x5C
+right = holdingAt x4323 0x00 spot 0x5C
 
 -- The one with everything locked, BP code 3 (Control register).
 abbrev pub lockedLeft : Part
-lockedLeft = holdingAt 0x18 0x4C
+lockedLeft = holdingAt x4323 0x18 spot 0x4C
 
 -- The other with everything locked.
 abbrev pub lockedRight : Part
-lockedRight = holdingAt 0x18 0x5C
+lockedRight = holdingAt x4323 0x18 spot 0x5C
+
+-- The one as an X4283, with code 1, which locks another block (Control register; request 2026-01).
+abbrev pub farLeft : Part
+farLeft = holdingAt x4283 0x08 farSpot 0x4C
+
+-- The other as an X4283.
+abbrev pub farRight : Part
+farRight = holdingAt x4283 0x08 farSpot 0x5C
+
+-- An address is read (Bytes on the wire, read).
+abbrev pub readAt : ℕ → Capture
+readAt a = joined (awake ++ brisk (readFrom 0 a 1) ∷ [])
 
 -- The address is read (Bytes on the wire, read).
 abbrev pub readIt : Capture
-readIt = joined (awake ++ brisk (readFrom 0 spot 1) ∷ [])
+readIt = readAt spot
 
 -- Another address is read (Bytes on the wire, read).
 abbrev pub readOther : Capture
-readOther = joined (awake ++ brisk (readFrom 0 0x0346 1) ∷ [])
+readOther = readAt 0x0346
 
 -- A byte is sent to the address, and after the write time the address is read (Bytes on the wire, array data, stop, read).
 abbrev pub writeAndRead : List Capture
@@ -91,19 +108,23 @@ elsewhereAfter c = elsewhere spot (sentAfter (c .times) (c .levels) left nothing
 abbrev pub uncoveredBy : Capture → Bool
 uncoveredBy c = coversNone spot (c .times) (c .levels) left
 
--- Under the sheet's rules: where a bit is reached and the answers differ, where the address is covered; demand 3 holds.
-pub record RunsTo (p q : Part) (c : Capture) (reach cover : When) : Type 0 where
+-- Under the sheet's rules: where a bit is reached and the answers differ, where an address is covered; demand 3 holds.
+pub record RunsAt (a : ℕ) (p q : Part) (c : Capture) (reach cover : When) : Type 0 where
   pub taken : Taken c p
-  pub reached : firstReach spot 0 (c .times) (c .levels) p q nothing nothing ≡ reach
+  pub reached : firstReach a 0 (c .times) (c .levels) p q nothing nothing ≡ reach
   pub differ : firstDiff 0 (answersTo c p) (answersTo c q) ≡ reach
-  pub covered : firstCover spot 0 (c .times) (c .levels) p ≡ cover
-  pub demanded : holdsOf partStep p q c ≡ true
+  pub covered : firstCover a 0 (c .times) (c .levels) p ≡ cover
+  pub demanded : holdsFor partStep a (c .times) (c .levels) p q ≡ true
+
+-- The same of the address of the smaller parts (demand 3).
+abbrev pub RunsTo : Part → Part → Capture → When → When → Type 0
+RunsTo p q c reach cover = RunsAt spot p q c reach cover
 
 -- The runs, all computed (demand 3).
 pub record Occurs : Type 0 where
   -- the arrays are as demand 3 asks
   pub arrays : EqualBut spot (left .array) (right .array)
-  pub size : length (left .array) ≡ smallSize
+  pub size : length (left .array) ≡ kindOf x4323 .size
   pub read : RunsTo left right readIt (sample 126) never
   pub other : RunsTo left right readOther never never
   pub write : RunsTo left right setWrite never (sample 230)
@@ -117,3 +138,6 @@ pub record Occurs : Type 0 where
   -- cut off before the unequal bit, the states differ in the byte being sent, and in nothing else by demand 3
   pub cut : RunsTo left right cutRead never never
   pub held : (stillHeld left cutRead ≡ 0x30) × (stillHeld right cutRead ≡ 0x70)
+  -- of the larger part, above 0FFFh
+  pub far : EqualBut farSpot (farLeft .array) (farRight .array)
+  pub far-read : RunsAt farSpot farLeft farRight (readAt farSpot) (sample 126) never

@@ -1,6 +1,6 @@
 // What kind of part a part number names.
 ghost use mathlib.Core.Path.{_≡_};
-ghost use Rattle.ground.specs.Kind.{kindOf};
+ghost use Rattle.ground.specs.Kind.{smaller, larger, kindOf};
 ghost use Rattle.ground.specs.Size.{SizesPart};
 
 pub const X4323: u16 = 4323;
@@ -22,30 +22,36 @@ pub struct Kind {
     pub upper: bool,
 }
 
+// A part of the smaller size, by its RESET pin.
+fn small(high: bool) -> Kind
+    ensures { λ r. ⌜ r ≡ smaller high ⌝ }
+{
+    Kind {
+        size: SMALL_SIZE,
+        high,
+        upper: false,
+    }
+}
+
+// One of the larger size.
+fn large(high: bool) -> Kind
+    ensures { λ r. ⌜ r ≡ larger high ⌝ }
+{
+    Kind {
+        size: LARGE_SIZE,
+        high,
+        upper: true,
+    }
+}
+
 pub fn kind_of(part: u16) -> Kind
     ensures { λ r. ⌜ r ≡ kindOf part ⌝ }
 {
     match part {
-        X4323 => Kind {
-            size: SMALL_SIZE,
-            high: false,
-            upper: false,
-        },
-        X4325 => Kind {
-            size: SMALL_SIZE,
-            high: true,
-            upper: false,
-        },
-        X4283 => Kind {
-            size: LARGE_SIZE,
-            high: false,
-            upper: true,
-        },
-        X4285 => Kind {
-            size: LARGE_SIZE,
-            high: true,
-            upper: true,
-        },
+        X4323 => small(false),
+        X4325 => small(true),
+        X4283 => large(false),
+        X4285 => large(true),
         _ => Kind {
             size: 0,
             high: false,

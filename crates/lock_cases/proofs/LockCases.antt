@@ -1,17 +1,20 @@
 -- The bench cases of the block lock: which places a code locks, and that a data byte there is left without acknowledge and is not kept. For
--- every kind of part, since codes 0 to 2 and 4 to 7 lock the same pages of each. No axiom is used.
-use Prim.Native.Nat.{ℕ}
+-- every kind of part where a code locks the same pages of each; else by the kind's size and upper blocks, once for parts that share them. No
+-- axiom is used.
+use Prim.Native.Nat.{ℕ, _<_, _*_}
 use mathlib.Core.Bool.{Bool, true, false, not}
 use mathlib.Core.Path.{_≡_, refl}
 use native.Mathlib.Omega.{arith}
 use borrow.Author.Tests.{le-leb, lt-ltb, le-ltb}
-use Rattle.lock.specs.Lock.{blockCode, extentOf, lockedOf}
+use Rattle.ground.specs.Kind.{kindOf}
+use Rattle.lock.specs.Lock.{blockCode, firstPages, extentOf, inExtent, lockedOf}
+use Rattle.lock.specs.declared.Extent.{Extent}
 use Rattle.page.specs.Page.{at, pageOf}
 use Rattle.ground.specs.declared.kinds.Kind.{Kind}
 use Rattle.part.specs.declared.state.Device.{Device}
 use Rattle.part.specs.declared.state.Load.{Load}
 use Rattle.device.specs.Bytes.{takenOf, dataBy, byteOf, keptBy, keptOf}
-use Rattle.lock_cases.specs.LockCases.{loadAfter, Locks, P2, P3, P4, S10, S11, S12, S13}
+use Rattle.lock_cases.specs.LockCases.{loadAfter, Locks, P2, P3, P4, P4Larger, S10, S11, S12, S13, S24}
 
 -- What is answered to a data byte that is taken or not.
 own-by : (b : Bool) (d : Device) → dataBy (not b) d .talk .own ≡ b
@@ -47,12 +50,58 @@ pub p3 : (k : Kind) → P3 k
 unfolding lockedOf extentOf
 p3 k = record { inside = locks k 7 0x1FF true (λ stored c. rw c); outside = locks k 7 0x200 false (λ stored c. rw c) }
 
--- P4: code 2 locks nothing.
-pub p4 : (k : Kind) → P4 k
-unfolding lockedOf extentOf
-p4 k place =
-    locks k 2 place false
-    (λ stored c. rw (c, le-leb 0 (pageOf (at place)) (omega arith), le-ltb (pageOf (at place)) 0 (omega arith)))
+-- An extent that a code locks decides for a place by its page.
+by-extent : (k : Kind) (code place : ℕ) (x : Extent) (b : Bool) → extentOf k code ≡ x → inExtent x (pageOf (at place)) ≡ b → Locks k code place b
+unfolding lockedOf
+by-extent k code place x b e h = locks k code place b (λ stored c. rw (c, e) h)
+
+-- No place lies in no pages.
+in-none : (place : ℕ) → inExtent (firstPages 0) (pageOf (at place)) ≡ false
+in-none place = rw (le-leb 0 (pageOf (at place)) (omega arith), le-ltb (pageOf (at place)) 0 (omega arith))
+
+-- Every place of an array of so many pages lies in the first so many.
+in-all : (n place : ℕ) → place < n * 64 → inExtent (firstPages n) (pageOf (at place)) ≡ true
+in-all n place h = rw (le-leb 0 (pageOf (at place)) (omega arith), lt-ltb (pageOf (at place)) n (omega (arith, h)))
+
+-- A kind of 4,096 bytes without upper blocks: codes 1 and 2 lock nothing, 3 everything.
+smaller : (part : ℕ) → kindOf part .size ≡ 0x1000 → kindOf part .upper ≡ false → P4 part × S24 part
+unfolding extentOf
+smaller part s u = (
+  λ place. by-extent (kindOf part) 2 place (firstPages 0) false (rw u) (in-none place),
+  record {
+    one = λ place. by-extent (kindOf part) 1 place (firstPages 0) false (rw u) (in-none place);
+    three = λ place h. by-extent (kindOf part) 3 place (firstPages 64) true (rw s) (in-all 64 place h);
+  },
+)
+
+-- A kind of 16,384 bytes with them: code 1 locks from 3000h on, 2 from 2000h on, 3 everything.
+module _ (part : ℕ) (s : kindOf part .size ≡ 0x4000) (u : kindOf part .upper ≡ true) where
+  first : (place : ℕ) (b : Bool) → inExtent (record { from = 192; to = 256 }) (pageOf (at place)) ≡ b → Locks (kindOf part) 1 place b
+  unfolding extentOf
+  first place b h = by-extent (kindOf part) 1 place (record { from = 192; to = 256 }) b (rw (u, s)) h
+
+  second : (place : ℕ) (b : Bool) → inExtent (record { from = 128; to = 256 }) (pageOf (at place)) ≡ b → Locks (kindOf part) 2 place b
+  unfolding extentOf
+  second place b h = by-extent (kindOf part) 2 place (record { from = 128; to = 256 }) b (rw (u, s)) h
+
+  larger : P4Larger part
+  unfolding extentOf
+  larger =
+      record {
+        one = (first 0x3000 true refl, first 0x3FFF true refl, first 0x2FFF false refl);
+        two = (second 0x2000 true refl, second 0x3FFF true refl, second 0x1FFF false refl);
+        three = λ place h. by-extent (kindOf part) 3 place (firstPages 256) true (rw s) (in-all 256 place h);
+      }
+
+-- P4: code 2 locks nothing of the smaller parts.
+pub p4 : P4 4323 × P4 4325
+unfolding kindOf
+p4 = (smaller 4323 refl refl .0, smaller 4325 refl refl .0)
+
+-- Beside P4: what codes 1 to 3 lock of the larger parts.
+pub p4-larger : P4Larger 4283 × P4Larger 4285
+unfolding kindOf
+p4-larger = (larger 4283 refl refl, larger 4285 refl refl)
 
 -- S10: the bits of a code.
 pub s10 : S10
@@ -78,18 +127,12 @@ s12 k =
       outside = locks k 6 0x100 false (λ stored c. rw c);
     }
 
--- S13: codes 0 and 1 lock nothing, 3 everything.
+-- S13: code 0 locks nothing.
 pub s13 : (k : Kind) → S13 k
-unfolding lockedOf extentOf
-s13 k =
-    record {
-      zero = λ place.
-          locks k 0 place false
-          (λ stored c. rw (c, le-leb 0 (pageOf (at place)) (omega arith), le-ltb (pageOf (at place)) 0 (omega arith)));
-      one = λ place.
-          locks k 1 place false
-          (λ stored c. rw (c, le-leb 0 (pageOf (at place)) (omega arith), le-ltb (pageOf (at place)) 0 (omega arith)));
-      three = λ size place inside.
-          locks k 3 place true
-          (λ stored c. rw (c, size, le-leb 0 (pageOf (at place)) (omega arith), lt-ltb (pageOf (at place)) 64 (omega (arith, inside))));
-    }
+unfolding extentOf
+s13 k = record { zero = λ place. by-extent k 0 place (firstPages 0) false refl (in-none place) }
+
+-- S24: of the smaller parts code 1 locks nothing, 3 everything.
+pub s24 : S24 4323 × S24 4325
+unfolding kindOf
+s24 = (smaller 4323 refl refl .1, smaller 4325 refl refl .1)

@@ -1,10 +1,12 @@
--- The bench cases of the block lock (document 01, Bench cases, P2 to P4; Control register, the other codes), said of every kind of part.
+-- The bench cases of the block lock (document 01, Bench cases, P2 to P4; Control register, the other codes), said of every kind of part
+-- where a code locks the same on all, and by part number where it does not.
 use Prim.Native.Nat.{ℕ, _<_, _%_}
 use mathlib.Core.Bool.{Bool, true, false}
 use mathlib.Core.Path.{_≡_}
 use lib.ListN.{set}
 use Rattle.lock.specs.Lock.{blockCode, lockedOf}
 use Rattle.page.specs.Page.{at}
+use Rattle.ground.specs.Kind.{kindOf}
 use Rattle.ground.specs.declared.kinds.Kind.{Kind}
 use Rattle.part.specs.declared.state.Phase.the-variants.{Data}
 use Rattle.part.specs.declared.state.Device.{Device}
@@ -41,9 +43,15 @@ pub record P3 (k : Kind) : Type 0 where
   pub inside : Locks k 7 0x1FF true
   pub outside : Locks k 7 0x200 false
 
--- Code 2 locks nothing (Bench cases, P4).
-abbrev pub P4 : Kind → Type 0
-P4 k = (place : ℕ) → Locks k 2 place false
+-- Code 2 locks nothing of a smaller part (Bench cases, P4).
+abbrev pub P4 : ℕ → Type 0
+P4 part = (place : ℕ) → Locks (kindOf part) 2 place false
+
+-- Of a larger part code 1 locks from 3000h on and not 2FFFh, code 2 from 2000h on and not 1FFFh, code 3 everything (request 2026-01).
+pub record P4Larger (part : ℕ) : Type 0 where
+  pub one : Locks (kindOf part) 1 0x3000 true × Locks (kindOf part) 1 0x3FFF true × Locks (kindOf part) 1 0x2FFF false
+  pub two : Locks (kindOf part) 2 0x2000 true × Locks (kindOf part) 2 0x3FFF true × Locks (kindOf part) 2 0x1FFF false
+  pub three : (place : ℕ) → place < 0x4000 → Locks (kindOf part) 3 place true
 
 -- Which codes a control byte has: bit 0 is BP2, bits 4 and 3 are BP1 and BP0 (Control register, bits 7 to 0).
 pub record S10 : Type 0 where
@@ -64,8 +72,11 @@ pub record S12 (k : Kind) : Type 0 where
   pub inside : Locks k 6 0x0FF true
   pub outside : Locks k 6 0x100 false
 
--- Codes 0 and 1 lock nothing, 3 everything, where the array has 4,096 bytes (Control register).
+-- Code 0 locks nothing of any part (Control register).
 pub record S13 (k : Kind) : Type 0 where
   pub zero : (place : ℕ) → Locks k 0 place false
-  pub one : (place : ℕ) → Locks k 1 place false
-  pub three : k .size ≡ 4096 → (place : ℕ) → place < 4096 → Locks k 3 place true
+
+-- Of a smaller part code 1 locks nothing, and code 3 everything (Control register).
+pub record S24 (part : ℕ) : Type 0 where
+  pub one : (place : ℕ) → Locks (kindOf part) 1 place false
+  pub three : (place : ℕ) → place < 0x1000 → Locks (kindOf part) 3 place true

@@ -1,6 +1,6 @@
 -- The bench cases of captures (document 01, Bench cases, P1 and P5 to P9). They are said of a part that has just been powered up, with
 -- select 0, stored byte 00h and an array all FFh, WP low throughout: what it answers and holds after traffic that a replay accepts.
-use Prim.Native.Nat.{ℕ}
+use Prim.Native.Nat.{ℕ, _-_}
 use mathlib.Core.Bool.{true, false}
 use mathlib.Core.List.{List, [], _∷_, _++_}
 use mathlib.Core.Path.{_≡_}
@@ -12,7 +12,7 @@ use Rattle.part.specs.declared.state.Control.{Control}
 use Rattle.control.specs.Register.{readsOf}
 use Rattle.sample.specs.Run.{Part}
 use Rattle.waves.specs.Waves.{Capture, brisk, wait, start, sent, pageWrite, readFrom}
-use Rattle.runs.specs.Bench.{blankPart, partAt, answersAt, AcceptedAt, opening, registerByte, lastAnswers, clockedBits}
+use Rattle.runs.specs.Bench.{bytesIn, blankPart, partAt, answersAt, AcceptedAt, opening, registerByte, lastAnswers, clockedBits}
 
 -- Such a part after captures, one after the other (State and time, each sample).
 abbrev pub benchPart : ℕ → List Capture → Part
@@ -30,11 +30,11 @@ Accepted part cs = AcceptedAt (blankPart part 0) cs
 abbrev pub heldReset : List Capture
 heldReset = wait 100000 ∷ wait 100000 ∷ wait 99999 ∷ wait 1 ∷ []
 
--- After the first good-VCC sample 100,000 + 99,999 keeps reset, and 1 more ends it: the bit of the RESET pin (Bench cases, P1).
-pub record P1 : Type 0 where
-  pub taken : Accepted 4323 heldReset × Accepted 4325 heldReset
-  pub low : answers 4323 heldReset ≡ 1 ∷ 1 ∷ 1 ∷ 3 ∷ []
-  pub high : answers 4325 heldReset ≡ 3 ∷ 3 ∷ 3 ∷ 1 ∷ []
+-- After the first good-VCC sample 100,000 + 99,999 keeps reset, and 1 more ends it: `held` is the answer byte with the RESET pin active,
+-- `ended` with it inactive (Bench cases, P1).
+pub record P1 (part held ended : ℕ) : Type 0 where
+  pub taken : Accepted part heldReset
+  pub pin : answers part heldReset ≡ held ∷ held ∷ held ∷ ended ∷ []
 
 -- Twelve bytes from an address on, with WEL set before (Bytes on the wire, array data).
 abbrev pub twelve : ℕ → List Capture
@@ -51,9 +51,9 @@ wrapped = (5 ∷ 6 ∷ 7 ∷ 8 ∷ 9 ∷ 10 ∷ 11 ∷ 12 ∷ []) ++ replicate 5
 -- They fill 60 to 63 and 0 to 7, and the counter is at 8; in the next page it is the same (Bench cases, P5).
 pub record P5 (part : ℕ) : Type 0 where
   pub taken : Accepted part (twelve 0x03C) × Accepted part (twelve 0x07C)
-  pub page : benchPart part (twelve 0x03C) .array ≡ wrapped ++ replicate 4032 0xFF
+  pub page : benchPart part (twelve 0x03C) .array ≡ wrapped ++ replicate (bytesIn part - 64) 0xFF
   pub counter : benchPart part (twelve 0x03C) .state .device .counter ≡ at 8
-  pub next : benchPart part (twelve 0x07C) .array ≡ replicate 64 0xFF ++ wrapped ++ replicate 3968 0xFF
+  pub next : benchPart part (twelve 0x07C) .array ≡ replicate 64 0xFF ++ wrapped ++ replicate (bytesIn part - 128) 0xFF
   pub steps : benchPart part (twelve 0x07C) .state .device .counter ≡ at 0x048
 
 -- A start and a slave byte (Bytes on the wire, after a start).
@@ -99,7 +99,7 @@ pub record P8 (part : ℕ) : Type 0 where
   pub before : benchPart part (opening ++ brisk (registerByte 0x02) ∷ brisk (registerByte 0x06) ∷ []) .state .device .control ≡ latched
   pub same : benchPart part (three 0x02 0x06 0x67) .state .device .control ≡ latched
   pub time : benchPart part (three 0x02 0x06 0x67) .state .timers .write ≡ 0
-  pub array : benchPart part (three 0x02 0x06 0x67) .array ≡ replicate 4096 0xFF
+  pub array : benchPart part (three 0x02 0x06 0x67) .array ≡ replicate (bytesIn part) 0xFF
 
 -- A byte written, then 4,999 and 1 more (Bytes on the wire, stop).
 abbrev pub written5000 : List Capture

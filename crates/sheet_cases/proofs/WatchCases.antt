@@ -1,7 +1,7 @@
 -- Worked cases of the watchdog, each computed. No axiom is used.
 use mathlib.Core.Path.{refl}
 use Rattle.runs.proofs.Opened.{opened}
-use Rattle.sheet_cases.specs.WatchCases.{S4, S5}
+use Rattle.sheet_cases.specs.WatchCases.{S4, S5, S28}
 
 -- S4: the four loads.
 pub s4 : S4 4323
@@ -43,3 +43,8 @@ s5 = (
     anew = refl;
   },
 )
+
+-- S28: a changed WD.
+pub s28 : S28 4323
+unfolding opened
+s28 = record { taken = refl; on = refl; next = refl }

@@ -1,6 +1,6 @@
 -- Worked cases of addresses and reads (document 01, Bytes on the wire), said of a part that has just been powered up with select 0. Every
 -- number is the paper's, written out.
-use Prim.Native.Nat.{ℕ}
+use Prim.Native.Nat.{ℕ, _-_}
 use mathlib.Core.Bool.{false}
 use mathlib.Core.List.{List, [], _∷_, _++_}
 use mathlib.Core.Path.{_≡_}
@@ -63,3 +63,30 @@ pub record S3 (part : ℕ) : Type 0 where
   pub line : clockedBits (lastAnswers 57 (answersAt (fourBytes part) (twoFrom 0xFFF)))
       ≡ 1 ∷ 0 ∷ 0 ∷ 1 ∷ 0 ∷ 1 ∷ 1 ∷ 0 ∷ 1 ∷ 0 ∷ 0 ∷ 0 ∷ 1 ∷ 0 ∷ 0 ∷ 0 ∷ 1 ∷ 1 ∷ 1 ∷ []
   pub counter : partAt (fourBytes part) (twoFrom 0xFFF) .state .device .counter ≡ at 0x001
+
+-- An array of 16,384 bytes, all FFh but for 5Ah at a place (request 2026-01).
+abbrev pub farWritten : ℕ → List ℕ
+farWritten place = replicate place 0xFF ++ 0x5A ∷ replicate (0x3FFF - place) 0xFF
+
+-- Of a larger part 0FFFh and 1FFFh are two places, 3FFFh is the last, and so is 7FFFh by its low 14 bits; 02h sent to 0FFFh sets no latch
+-- (Bytes on the wire, write; request 2026-01).
+pub record S25 (part : ℕ) : Type 0 where
+  pub taken : AcceptedAt (blankPart part 0) (written 0x7FFF) × AcceptedAt (blankPart part 0) latchless
+  pub first : partAt (blankPart part 0) (written 0x0FFF) .array ≡ farWritten 0x0FFF
+  pub second : partAt (blankPart part 0) (written 0x1FFF) .array ≡ farWritten 0x1FFF
+  pub last : partAt (blankPart part 0) (written 0x3FFF) .array ≡ farWritten 0x3FFF
+  pub beyond : partAt (blankPart part 0) (written 0x7FFF) .array ≡ farWritten 0x3FFF
+  pub latch : partAt (blankPart part 0) latchless .state .device .control .wel ≡ false
+
+-- A part with 11h at 0000h, A5h at 0FFFh, 3Ch at 1000h and 96h at 3FFFh, all else FFh (request 2026-01).
+abbrev pub fourFar : ℕ → Part
+fourFar part = holding part 0 ((0x11 ∷ replicate 4094 0xFF) ++ (0xA5 ∷ 0x3C ∷ replicate 12286 0xFF) ++ 0x96 ∷ [])
+
+-- Of a larger part a read from 0FFFh goes on at 1000h, and one from 3FFFh at 0000h (Bytes on the wire, read; request 2026-01).
+pub record S26 (part : ℕ) : Type 0 where
+  pub taken : AcceptedAt (fourFar part) (twoFrom 0x3FFF)
+  pub on : clockedBits (lastAnswers 57 (answersAt (fourFar part) (twoFrom 0x0FFF)))
+      ≡ 1 ∷ 0 ∷ 1 ∷ 0 ∷ 0 ∷ 1 ∷ 0 ∷ 1 ∷ 1 ∷ 0 ∷ 0 ∷ 1 ∷ 1 ∷ 1 ∷ 1 ∷ 0 ∷ 0 ∷ 1 ∷ 1 ∷ []
+  pub around : clockedBits (lastAnswers 57 (answersAt (fourFar part) (twoFrom 0x3FFF)))
+      ≡ 1 ∷ 0 ∷ 0 ∷ 1 ∷ 0 ∷ 1 ∷ 1 ∷ 0 ∷ 1 ∷ 0 ∷ 0 ∷ 0 ∷ 1 ∷ 0 ∷ 0 ∷ 0 ∷ 1 ∷ 1 ∷ 1 ∷ []
+  pub counter : partAt (fourFar part) (twoFrom 0x3FFF) .state .device .counter ≡ at 0x0001

@@ -6,8 +6,8 @@ use mathlib.Core.List.{List, [], _∷_, _++_}
 use mathlib.Core.Path.{_≡_}
 use lib.ListN.{replicate}
 use Rattle.part.specs.declared.state.Watchdog.{Watchdog}
-use Rattle.waves.specs.Waves.{Capture, wait}
-use Rattle.runs.specs.Bench.{blankPart, partAt, answersAt, AcceptedAt, opening}
+use Rattle.waves.specs.Waves.{Capture, brisk, wait}
+use Rattle.runs.specs.Bench.{blankPart, partAt, answersAt, AcceptedAt, opening, registerByte}
 
 -- A start so many microseconds after the sample before: SCL stays high, SDA falls (State and time, 4).
 abbrev pub startAfter : ℕ → Capture
@@ -62,3 +62,14 @@ pub record S5 (part on idle : ℕ) : Type 0 where
       ≡ on ∷ on ∷ idle ∷ idle ∷ idle ∷ on ∷ on ∷ on ∷ idle ∷ idle ∷ idle ∷ on ∷ []
   pub off : answersAt (blankPart part 0x60) neverOut ≡ on ∷ on ∷ replicate 17 idle
   pub anew : answersAt (blankPart part 0x40) putOff ≡ on ∷ on ∷ idle ∷ idle ∷ idle ∷ idle ∷ idle ∷ on ∷ []
+
+-- 02h, 06h and 22h to the register: WD 01 in place of WD 00 (Control register).
+abbrev pub otherWatch : List Capture
+otherWatch = opening ++ brisk (registerByte 0x02) ∷ brisk (registerByte 0x06) ∷ brisk (registerByte 0x22) ∷ []
+
+-- A changed WD counts from the next load: what the start of the third byte loaded runs on, 112 microseconds less at its stop, and the next
+-- start loads by the new WD (State and time, every start).
+pub record S28 (part : ℕ) : Type 0 where
+  pub taken : AcceptedAt (blankPart part 0) (otherWatch ++ wait 5000 ∷ startAfter 7 ∷ [])
+  pub on : watchdogAt part 0 otherWatch ≡ record { running = true; left = 1399888 }
+  pub next : watchdogAt part 0 (otherWatch ++ wait 5000 ∷ startAfter 7 ∷ []) ≡ record { running = true; left = 600000 }

@@ -23,7 +23,7 @@ READER = [
     ("refusal 14", "type 2 counts as data", IMAGE, "(0, _, _) => {}", "(0 | 2, _, _) => {}"),
     ("refusal 14", "an end record may have an address", IMAGE, "(1, 0, 0) =>", "(1, 0, _) =>"),
     ("refusal 14", "an end record may have data", IMAGE, "(1, 0, 0) =>", "(1, _, 0) =>"),
-    ("refusal 15", "1000h is taken", IMAGE, "vec![None; SIZE]", "vec![None; SIZE + 1]"),
+    ("refusal 15", "the place after the array's end is taken", IMAGE, "vec![None; kind.size]", "vec![None; kind.size + 1]"),
     ("refusal 15", "asked of a record without data", IMAGE, "if record.count() == 0 {", "if false {"),
     ("refusal 16", "never asked", IMAGE, "if places.iter().any(Option::is_some) {", "if false {"),
     ("refusal 16", "not asked if the value is the same", IMAGE, "if places.iter().any(Option::is_some) {",

@@ -1,10 +1,10 @@
 //! The part's state, its power-up, and the replay of a capture over it.
 //! One sample is one step; the bus itself is in `wire`.
 
+use crate::parts::Kind;
 use crate::register::LATCH_BITS;
 use crate::wire::{Talk, PAGE};
 
-pub const ARRAY_SIZE: usize = 4_096;
 pub const MAX_SAMPLES: usize = 65_536;
 pub const MAX_ELAPSED: u32 = 100_000;
 pub const WRITE_US: u32 = 5_000;
@@ -73,7 +73,7 @@ pub struct Chip {
 
 impl Chip {
     pub fn power_up(part: u16, select: u8, stored: u8) -> Result<Chip, Refusal> {
-        if part != 4323 && part != 4325 {
+        if Kind::of(part).is_none() {
             return refuse(1, 0);
         }
         if select > 3 {
@@ -109,13 +109,18 @@ impl Chip {
         })
     }
 
+    /// Which part the state names. A state that names none is refused before
+    /// anything of it is stepped.
+    pub fn kind(&self) -> &'static Kind {
+        Kind::of(self.part).expect("the part is in range")
+    }
+
     fn in_range(&self) -> bool {
-        (self.counter as usize) < ARRAY_SIZE
+        Kind::of(self.part).is_some_and(|kind| (self.counter as usize) < kind.size)
             && self.bits <= 8
             && self.write_left <= WRITE_US
             && self.hold <= HOLD_US
             && self.dog_left <= LONGEST_DOG_US
-            && (self.part == 4323 || self.part == 4325)
             && self.select <= 3
             && self.stored & LATCH_BITS == 0
     }
@@ -132,7 +137,7 @@ impl Chip {
         if !self.in_range() {
             return refuse(4, 0);
         }
-        if array.len() != ARRAY_SIZE {
+        if array.len() != self.kind().size {
             return refuse(5, 0);
         }
         if elapsed.len() != levels.len() {
@@ -217,8 +222,7 @@ impl Chip {
     }
 
     fn answer(&self) -> u8 {
-        // X4323 has the pin low while active, X4325 high.
-        let reset_pin_high = self.in_reset == (self.part == 4325);
+        let reset_pin_high = self.in_reset == self.kind().reset_high;
         let mut answer = 0;
         if !self.pulls {
             answer |= ANSWER_SDA;

@@ -1,12 +1,10 @@
 //! Memory images as text: a reader, a writer, and both in a row.
 
 use crate::chip::Refusal;
+use crate::parts::Kind;
 use std::io::Write;
 
-pub const SIZE: usize = 4_096;
 pub const LONGEST_TEXT: usize = 65_536;
-/// Every row written (44 bytes each) and the end record (12).
-pub const LONGEST_OUT: usize = SIZE / ROW * 44 + 12;
 
 const ROW: usize = 16;
 const BLANK: u8 = 0xFF;
@@ -16,6 +14,12 @@ fn refuse<T>(number: u32, place: usize) -> Result<T, Refusal> {
         number,
         place: place as u32,
     })
+}
+
+/// What the writer asks for: every row written (44 bytes each) and the end
+/// record (12).
+pub const fn longest_out(kind: &Kind) -> usize {
+    kind.size / ROW * 44 + 12
 }
 
 /// The bytes of a well-formed record, from count to checksum.
@@ -77,15 +81,16 @@ fn first_line(text: &[u8]) -> (&[u8], usize) {
 }
 
 /// Sets the whole array from the text, or nothing of it.
-pub fn read_image(text: &[u8], array: &mut [u8]) -> Result<(), Refusal> {
-    if array.len() != SIZE {
+pub fn read_image(part: u16, text: &[u8], array: &mut [u8]) -> Result<(), Refusal> {
+    let kind = Kind::of(part).ok_or(Refusal { number: 1, place: 0 })?;
+    if array.len() != kind.size {
         return refuse(5, 0);
     }
     if text.len() > LONGEST_TEXT {
         return refuse(11, 0);
     }
     // A place that is still none has not been given: FFh can be given too.
-    let mut given: Vec<Option<u8>> = vec![None; SIZE];
+    let mut given: Vec<Option<u8>> = vec![None; kind.size];
     let mut start = 0;
     while start < text.len() {
         let (line, taken) = first_line(&text[start..]);
@@ -133,11 +138,12 @@ fn take_line(line: &[u8], given: &mut [Option<u8>]) -> Result<bool, u32> {
 }
 
 /// Gives the length written; the rest of the buffer stays as it is.
-pub fn write_image(array: &[u8], mut out: &mut [u8]) -> Result<usize, Refusal> {
-    if array.len() != SIZE {
+pub fn write_image(part: u16, array: &[u8], mut out: &mut [u8]) -> Result<usize, Refusal> {
+    let kind = Kind::of(part).ok_or(Refusal { number: 1, place: 0 })?;
+    if array.len() != kind.size {
         return refuse(5, 0);
     }
-    if out.len() < LONGEST_OUT {
+    if out.len() < longest_out(kind) {
         return refuse(19, 0);
     }
     let room = out.len();
@@ -168,11 +174,14 @@ pub fn record_text(address: u16, kind: u8, data: &[u8]) -> Vec<u8> {
     text.into_bytes()
 }
 
-/// The text in the writer's form, or the refusal as a line.
-pub fn tidy(text: &[u8]) -> Vec<u8> {
-    let mut array = vec![0; SIZE];
-    let mut out = vec![0; LONGEST_OUT];
-    let outcome = read_image(text, &mut array).and_then(|()| write_image(&array, &mut out));
+/// The text in the writer's form, or the refusal as a line. For a part that is
+/// none there is nothing to lend, and nothing is looked at.
+pub fn tidy(part: u16, text: &[u8]) -> Vec<u8> {
+    let (size, room) = Kind::of(part).map_or((0, 0), |kind| (kind.size, longest_out(kind)));
+    let mut array = vec![0; size];
+    let mut out = vec![0; room];
+    let outcome =
+        read_image(part, text, &mut array).and_then(|()| write_image(part, &array, &mut out));
     match outcome {
         Ok(length) => {
             out.truncate(length);

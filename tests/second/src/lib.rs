@@ -1,8 +1,10 @@
-//! A second simulator of the X4323 and X4325, written from the rules page and
-//! the part's sheet alone, to be compared with another one.
+//! A second simulator of the X4323 and X4325 and their larger sisters X4283 and
+//! X4285, written from the rules page, the requests and the parts' sheets alone,
+//! to be compared with another one.
 
 pub mod chip;
 pub mod form;
 pub mod image;
+pub mod parts;
 pub mod register;
 pub mod wire;

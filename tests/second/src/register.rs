@@ -37,18 +37,21 @@ impl Chip {
     }
 
     /// Whether an array place is block locked. The order of the three BP bits
-    /// in the code differs from their order in the byte.
+    /// in the code differs from their order in the byte. The first pages are as
+    /// many on every part; the blocks at the array's end are the part's own.
     pub fn locked(&self, place: u16) -> bool {
         let bit = |mask: u8, worth: u8| if self.stored & mask != 0 { worth } else { 0 };
-        let locked_pages = match bit(BP2, 4) + bit(BP1, 2) + bit(BP0, 1) {
-            0..=2 => 0,
-            3 => 64,
-            4 => 1,
-            5 => 2,
-            6 => 4,
-            _ => 8,
-        };
-        place < locked_pages * PAGE
+        let [quarter, half] = self.kind().top_blocks;
+        match bit(BP2, 4) + bit(BP1, 2) + bit(BP0, 1) {
+            0 => false,
+            1 => place >= quarter,
+            2 => place >= half,
+            3 => true,
+            4 => place < PAGE,
+            5 => place < 2 * PAGE,
+            6 => place < 4 * PAGE,
+            _ => place < 8 * PAGE,
+        }
     }
 
     /// A stop found one acknowledged register byte waiting.

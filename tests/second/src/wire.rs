@@ -1,6 +1,6 @@
 //! The 2-wire bus: starts, stops, bits, and what the bytes made of them do.
 
-use crate::chip::{Chip, ARRAY_SIZE, WRITE_US};
+use crate::chip::{Chip, WRITE_US};
 
 /// Bytes in a page of the array, and places in the page load.
 pub const PAGE: u16 = 64;
@@ -132,7 +132,7 @@ impl Chip {
                 if self.register_chosen {
                     self.talk = Talk::RegisterData;
                 } else {
-                    self.counter = address % ARRAY_SIZE as u16;
+                    self.counter = address % self.kind().size as u16;
                     self.talk = Talk::ArrayData;
                 }
             }
@@ -169,7 +169,7 @@ impl Chip {
             self.talk = Talk::SendRegister;
         } else {
             self.byte = array[self.counter as usize];
-            self.counter = (self.counter + 1) % ARRAY_SIZE as u16;
+            self.counter = (self.counter + 1) % self.kind().size as u16;
         }
         self.put_out_bit();
     }

@@ -1,12 +1,17 @@
 //! The rules page on image files: its own bench cases and each refusal.
 
-use second::image::{read_image, record_text, tidy, write_image, LONGEST_OUT, LONGEST_TEXT, SIZE};
+use second::image::{longest_out, read_image, record_text, tidy, write_image, LONGEST_TEXT};
+use second::parts::KINDS;
+
+const PART: u16 = KINDS[0].number;
+const SIZE: usize = KINDS[0].size;
+const LONGEST_OUT: usize = longest_out(&KINDS[0]);
 
 const END: &str = ":00000001FF\n";
 const PAGE_IMAGE: &str = ":100010004CFFFFFFFFFFFFFFFFFFFFFFFFFFFFFFA3\n:00000001FF\n";
 
 fn said(text: impl AsRef<[u8]>) -> String {
-    String::from_utf8(tidy(text.as_ref())).unwrap()
+    String::from_utf8(tidy(PART, text.as_ref())).unwrap()
 }
 
 fn record(address: u16, kind: u8, data: &[u8]) -> String {
@@ -27,7 +32,7 @@ fn off(line: &str) -> String {
 fn refused(text: impl AsRef<[u8]>) -> (u32, u32) {
     let before: Vec<u8> = (0..SIZE).map(|place| (place * 3) as u8).collect();
     let mut array = before.clone();
-    let refusal = read_image(text.as_ref(), &mut array).unwrap_err();
+    let refusal = read_image(PART, text.as_ref(), &mut array).unwrap_err();
     assert_eq!(array, before, "a refusal leaves the array alone");
     assert_eq!(
         said(text),
@@ -41,11 +46,11 @@ fn p10_the_image_of_the_page() {
     let mut array = vec![0xFF; SIZE];
     array[0x10] = 0x4C;
     let mut out = vec![b'~'; LONGEST_OUT + 3];
-    assert_eq!(write_image(&array, &mut out), Ok(PAGE_IMAGE.len()));
+    assert_eq!(write_image(PART, &array, &mut out), Ok(PAGE_IMAGE.len()));
     assert!(out.starts_with(PAGE_IMAGE.as_bytes()));
     assert!(out[PAGE_IMAGE.len()..].iter().all(|&byte| byte == b'~'));
     let mut read = vec![0; SIZE];
-    assert_eq!(read_image(PAGE_IMAGE.as_bytes(), &mut read), Ok(()));
+    assert_eq!(read_image(PART, PAGE_IMAGE.as_bytes(), &mut read), Ok(()));
     assert_eq!(read, array);
     assert_eq!(said(PAGE_IMAGE), PAGE_IMAGE);
 }
@@ -61,13 +66,13 @@ fn writer_and_its_refusals() {
     let mut out = vec![0; LONGEST_OUT];
     assert_eq!(LONGEST_OUT, 11_276);
     // The last row is all FFh here, so one record is left out.
-    assert_eq!(write_image(&full, &mut out), Ok(LONGEST_OUT - 44));
-    assert_eq!(write_image(&vec![0; SIZE], &mut out), Ok(LONGEST_OUT));
+    assert_eq!(write_image(PART, &full, &mut out), Ok(LONGEST_OUT - 44));
+    assert_eq!(write_image(PART, &vec![0; SIZE], &mut out), Ok(LONGEST_OUT));
     let blank = vec![0xFF; SIZE];
-    assert_eq!(write_image(&blank, &mut out), Ok(END.len()));
+    assert_eq!(write_image(PART, &blank, &mut out), Ok(END.len()));
     let number = |array: &[u8], length: usize| {
         let mut out = vec![7; length];
-        let refusal = write_image(array, &mut out).unwrap_err();
+        let refusal = write_image(PART, array, &mut out).unwrap_err();
         assert!(out.iter().all(|&byte| byte == 7));
         assert_eq!(refusal.place, 0);
         refusal.number
@@ -80,7 +85,7 @@ fn writer_and_its_refusals() {
 #[test]
 fn order_of_5_and_11() {
     let long = vec![b'x'; LONGEST_TEXT + 1];
-    assert_eq!(read_image(&long, &mut [0; SIZE - 1]).unwrap_err().number, 5);
+    assert_eq!(read_image(PART, &long, &mut [0; SIZE - 1]).unwrap_err().number, 5);
     assert_eq!(refused(&long), (11, 0));
     assert_eq!(refused(&long[1..]), (12, 0));
     let surplus = format!("{END}{}", " ".repeat(LONGEST_TEXT + 1 - END.len()));

@@ -14,6 +14,9 @@ const REPLY_STATE: [&str; 8] = [
     "watchdog left",
 ];
 
+/// Bytes in the array of an accepted case of X4283 or X4285.
+const LARGER: usize = 16_384;
+
 pub fn print_difference(difference: &Difference) {
     let Some(case) = &difference.case else {
         let length = |reply: &Option<Vec<u8>>| reply.as_ref().map_or(0, Vec::len);
@@ -76,6 +79,7 @@ pub struct Tally {
     sda_pulled: u32,
     left_reset: u32,
     dog_running: u32,
+    larger: u32,
 }
 
 impl Tally {
@@ -88,6 +92,7 @@ impl Tally {
         if number != 0 {
             return;
         }
+        self.larger += (case.array.len() == LARGER) as u32;
         self.samples += case.levels.len() as u64 * u64::from(case.times.max(1));
         let (answers, rest) = reply[8..].split_at(case.answer_len as usize);
         let (array, state) = rest.split_at(case.array.len());
@@ -103,7 +108,8 @@ impl Tally {
     }
 
     /// The last line is for a program that adds up several runs: cases,
-    /// samples stepped through, accepted, then refused by 1 to 10.
+    /// samples stepped through, accepted, then refused by 1 to 10, then how
+    /// many of the accepted are of the larger parts.
     pub fn print(&self) {
         println!("equal over {} cases", self.cases);
         println!(
@@ -115,6 +121,6 @@ impl Tally {
         for count in self.refusals {
             print!(" {count}");
         }
-        println!();
+        println!(" {}", self.larger);
     }
 }

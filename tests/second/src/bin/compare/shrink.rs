@@ -118,14 +118,21 @@ impl Shrinker<'_> {
     }
 
     /// The words before the rows: one replay, no state put in, an X4323 with
-    /// an empty register and select 0.
+    /// an empty register and select 0. Where it must be a larger part, an X4283.
     fn plain_head(&mut self) -> io::Result<()> {
         self.try_one(|case| case.times = 1)?;
+        self.try_one(|case| {
+            case.part = 4_323;
+            case.array.truncate(4_096);
+        })?;
         self.try_one(|case| case.state = [LEAVE; 8])?;
         for field in 0..8 {
             self.try_one(|case| case.state[field] = LEAVE)?;
         }
         self.try_one(|case| case.part = 4_323)?;
+        if self.case.part == 4_285 {
+            self.try_one(|case| case.part = 4_283)?;
+        }
         self.try_one(|case| case.select = 0)?;
         self.try_one(|case| case.stored = 0)?;
         for bit in 0..8 {

@@ -103,7 +103,9 @@ impl Talker<'_> {
 
     fn random_read(&mut self) {
         let address = if self.rng.percent(25) {
-            self.rng.between(0x0FFC, 0x0FFF) as u16 // over the array's end
+            // Over the array's end, or over where the other size ends.
+            let end = self.rng.pick(&[0x1000, 0x4000, 0x4000]);
+            end - self.rng.between(1, 4) as u16
         } else {
             self.address()
         };

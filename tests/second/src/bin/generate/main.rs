@@ -17,6 +17,7 @@ mod talk;
 use master::{Hand, Master};
 use rng::Rng;
 use second::form::{write_case, Case, LEAVE};
+use second::parts::KINDS;
 use std::io::{self, BufWriter, Write};
 use symbols::Sym;
 use talk::Talker;
@@ -65,7 +66,13 @@ fn main() -> io::Result<()> {
 fn usual_case(rng: &mut Rng, index: u64) -> Case {
     let mut case = bare_case(rng);
     if rng.percent(20) {
-        spoil::good_state(rng, &mut case.state);
+        spoil::good_state(rng, &mut case);
+    }
+    // A state word may have made it a part of another size; then the array
+    // mostly is of that size too.
+    let size = spoil::size_in_force(&case) as usize;
+    if case.array.len() != size && rng.percent(70) {
+        case.array = array(rng, size);
     }
     let target = match rng.below(100) {
         0..=1 => 0,
@@ -83,7 +90,7 @@ fn usual_case(rng: &mut Rng, index: u64) -> Case {
     case.answer_len = case.levels.len() as u32;
     match rng.below(100) {
         0..=10 => spoil::spoil(rng, &mut case),
-        11..=14 => spoil::over_limit(rng, &mut case.state),
+        11..=14 => spoil::over_limit(rng, &mut case),
         _ => {}
     }
     case
@@ -115,33 +122,32 @@ fn huge_case(rng: &mut Rng) -> Case {
 }
 
 fn bare_case(rng: &mut Rng) -> Case {
+    let kind = &KINDS[rng.below(KINDS.len() as u32) as usize];
     Case {
-        part: rng.pick(&[4_323, 4_325]),
+        part: kind.number.into(),
         select: rng.below(4),
         stored: spoil::good_stored(rng),
         times: rng.pick(&[0, 1, 1, 1, 2, 3]),
         answer_len: 0,
         state: [LEAVE; 8],
-        array: array(rng),
+        array: array(rng, kind.size),
         elapsed: Vec::new(),
         levels: Vec::new(),
     }
 }
 
 /// Patterns in which it shows where a byte came from, or that it was stored.
-fn array(rng: &mut Rng) -> Vec<u8> {
-    let kind = rng.below(6);
-    (0..4_096u32)
-        .map(|place| match kind {
-            0 => place ^ place >> 8,
-            1 => place >> 6,
-            2 => place * 7 + (place >> 6),
-            3 => 0xFF,
-            4 => 0x00,
-            _ => rng.next(),
-        })
-        .map(|value| value as u8)
-        .collect()
+fn array(rng: &mut Rng, size: usize) -> Vec<u8> {
+    let places = 0..size as u32;
+    let pattern = |value: fn(u32) -> u32| places.map(|place| value(place) as u8).collect();
+    match rng.below(6) {
+        0 => pattern(|place| place ^ place >> 8),
+        1 => pattern(|place| place >> 6),
+        2 => pattern(|place| place * 7 + (place >> 6)),
+        3 => vec![0xFF; size],
+        4 => vec![0x00; size],
+        _ => (0..size / 4).flat_map(|_| rng.next().to_le_bytes()).collect(),
+    }
 }
 
 /// The select the part will really have, which a state word may have changed.
@@ -149,6 +155,16 @@ fn select_in_force(case: &Case) -> u8 {
     match case.state[spoil::SELECT] {
         LEAVE => case.select as u8,
         word => word as u8 & 3,
+    }
+}
+
+/// A talker that knows the part it will talk to.
+fn talker<'a>(rng: &'a mut Rng, case: &Case) -> Talker<'a> {
+    Talker {
+        rng,
+        select: select_in_force(case),
+        size: spoil::size_in_force(case),
+        out: Vec::new(),
     }
 }
 
@@ -169,7 +185,7 @@ fn new_master(rng: &mut Rng) -> Master<'_> {
 /// be served, so that a write time set with it can be seen running.
 fn opening(rng: &mut Rng, case: &Case) -> Vec<Sym> {
     let short_hold = case.state[spoil::HOLD] <= 1;
-    let mut talker = Talker { rng, select: select_in_force(case), out: Vec::new() };
+    let mut talker = talker(rng, case);
     if short_hold && talker.rng.percent(70) {
         let time = talker.rng.below(2);
         talker.out = vec![Sym::Dip(0), Sym::Wait(time)];
@@ -191,8 +207,7 @@ fn talk_rows(rng: &mut Rng, case: &Case, target: usize) -> (Vec<u32>, Vec<u8>) {
     let mut master = new_master(rng);
     master.play(&opening);
     while master.levels.len() < target {
-        let mut talker =
-            Talker { rng: master.rng, select: select_in_force(case), out: Vec::new() };
+        let mut talker = talker(master.rng, case);
         talker.transaction();
         let mut symbols = talker.out;
         if master.rng.percent(damaged_percent) {
@@ -212,7 +227,7 @@ fn talk_rows(rng: &mut Rng, case: &Case, target: usize) -> (Vec<u32>, Vec<u8>) {
 /// case, then reads that show what has become of the part.
 fn swept_rows(rng: &mut Rng, case: &Case, step: u32) -> (Vec<u32>, Vec<u8>) {
     let opening = opening(rng, case);
-    let mut talker = Talker { rng, select: select_in_force(case), out: Vec::new() };
+    let mut talker = talker(rng, case);
     talker.transaction();
     let mut symbols = std::mem::take(&mut talker.out);
     talker.show();

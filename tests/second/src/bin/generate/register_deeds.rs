@@ -80,8 +80,8 @@ impl Talker<'_> {
     pub fn lock_edge(&mut self) {
         if self.rng.percent(70) {
             let watchdog = self.rng.pick(&[0x00, 0x20, 0x40, 0x60]);
-            // The BP bits of codes 3 to 7 and 2.
-            let lock = self.rng.pick(&[0x18, 0x01, 0x09, 0x11, 0x19, 0x10]);
+            // The BP bits of codes 3 to 7, then of 1 and 2.
+            let lock = self.rng.pick(&[0x18, 0x01, 0x09, 0x11, 0x19, 0x08, 0x08, 0x10, 0x10]);
             for value in [0x02, 0x06, watchdog | lock | 0x02] {
                 self.register_byte(value);
                 self.out.push(Sym::WriteStop);
@@ -94,10 +94,17 @@ impl Talker<'_> {
                 self.out.push(Sym::Stop);
             }
         }
-        let end = self.rng.pick(&[0x040, 0x080, 0x0C0, 0x100, 0x1C0, 0x200, 0x1000]);
-        let address = self.rng.pick(&[end - 1, end - 1, end - 64, end % 0x1000]);
+        // Where a block ends or begins on a part of either size.
+        let end = if self.rng.coin() {
+            self.rng.pick(&[0x040, 0x080, 0x0C0, 0x100, 0x1C0, 0x200, 0x1000])
+        } else {
+            self.rng.pick(&[0x0C00, 0x1000, 0x2000, 0x2000, 0x3000, 0x3000, 0x4000])
+        };
+        let address = self.rng.pick(&[end - 1, end - 1, end - 64, end, end + 63]);
         self.begin_write(address);
-        self.data(1);
+        // More than one byte from a page's last place goes back to its first.
+        let count = self.rng.pick(&[1, 1, 1, 2, 3]);
+        self.data(count);
         self.out.push(Sym::WriteStop);
         self.out.push(Sym::Until(Mark::Write, 5_000));
         self.register_read();

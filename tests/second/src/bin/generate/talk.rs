@@ -3,16 +3,21 @@
 use crate::rng::Rng;
 use crate::symbols::{Mark, Sym};
 
-/// Addresses where something ends: pages, locked extents, the array, and the
-/// register with its neighbours and its look-alikes in 12 bits.
-const EDGES: [u16; 22] = [
+/// Addresses where something ends, on one size or the other: pages, locked
+/// extents, the array, and the register with its neighbours and its look-alikes
+/// in 12 and 14 bits.
+const EDGES: [u16; 40] = [
     0x0000, 0x003C, 0x003F, 0x0040, 0x007F, 0x0080, 0x00FF, 0x0100, 0x01FC, 0x01FF, 0x0200,
-    0x07FF, 0x0FBF, 0x0FC0, 0x0FFE, 0x0FFF, 0x1FFF, 0xF03F, 0xFFFE, 0xFFFF, 0xFEFF, 0xFF00,
+    0x07FF, 0x0FBF, 0x0FC0, 0x0FFE, 0x0FFF, 0x1000, 0x1FBF, 0x1FFE, 0x1FFF, 0x2000, 0x203F,
+    0x2FBF, 0x2FFE, 0x2FFF, 0x3000, 0x303F, 0x3FBF, 0x3FFC, 0x3FFF, 0x4000, 0x7FFF, 0x8000,
+    0xBFFF, 0xF03F, 0xFFFE, 0xFFFF, 0xFFFF, 0xFEFF, 0xFF00,
 ];
 
 pub struct Talker<'a> {
     pub rng: &'a mut Rng,
     pub select: u8,
+    /// Bytes of the part's array.
+    pub size: u32,
     pub out: Vec<Sym>,
 }
 
@@ -116,8 +121,8 @@ impl Talker<'_> {
         match self.rng.below(10) {
             0..=3 => self.rng.pick(&EDGES),
             4 => self.rng.next() as u16,
-            5 => (self.rng.below(64) * 64 + 60 + self.rng.below(4)) as u16,
-            _ => self.rng.below(4096) as u16,
+            5 => (self.rng.below(self.size / 64) * 64 + 60 + self.rng.below(4)) as u16,
+            _ => self.rng.below(self.size) as u16,
         }
     }
 }

@@ -1,0 +1,2 @@
+pub mod AtWords
+pub mod WordLaws

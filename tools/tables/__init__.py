@@ -1,0 +1,1 @@
+"""What more than one script of this folder, or of tests/, imports."""
