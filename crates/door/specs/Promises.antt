@@ -1,10 +1,8 @@
 -- What the door promises, for every input: the answer, the reply row, and what each lent row holds at the end. Nothing here is assumed of
--- an input: every definition is total. Images are those of Told (crate telling), at the size of the X4323.
+-- an input: every definition is total. Images are those of Told (crate telling), of the part that is named.
 use Prim.Native.Nat.{ℕ}
 use mathlib.Core.List.{List}
 use mathlib.Core.Path.{_≡_}
-use Rattle.ground.specs.Numbers.{x4323}
-use Rattle.ground.specs.Kind.{kindOf}
 use Rattle.power.specs.Power.{atPower}
 use Rattle.sample.specs.Run.{partAfter}
 use Rattle.twin.specs.Promises.{rowAfter}
@@ -17,7 +15,3 @@ pub record ReplaysOnce (part select stored : ℕ) (es ls array row numbers : Lis
   pub reply : numbers′ ≡ leftOr (fits numbers) (told (captureVerdict part select stored es ls array row)) numbers
   pub kept : array′ ≡ leftOr (fits numbers) (partAfter (captureVerdict part select stored es ls array row) es ls (atPower part select stored array) .array) array
   pub said : row′ ≡ leftOr (fits numbers) (rowAfter (captureVerdict part select stored es ls array row) es ls (atPower part select stored array) row) row
-
--- The size of the array whose images go through the door: the X4323's (The part on our bench).
-abbrev pub imageSize : ℕ
-imageSize = kindOf x4323 .size

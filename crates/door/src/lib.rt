@@ -1,10 +1,8 @@
 // The twin and the images for other languages, over numbers and slices; include/qillampu.h declares the three
 // functions for C. None has a `requires`, and each says for every input its answer, the reply row and what each
 // lent row holds at the end.
-use ground::kinds;
-ghost use mathlib.Core.Path.{_≡_};
 ghost use Rattle.telling.specs.Told.{ReadsThrough, WritesThrough};
-ghost use Rattle.door.specs.Promises.{imageSize, ReplaysOnce};
+ghost use Rattle.door.specs.Promises.{ReplaysOnce};
 
 // Power-up and the replay of one capture.
 #[no_mangle]
@@ -30,26 +28,28 @@ pub extern "C" fn qillampu_replay(
     telling::DONE
 }
 
-// The size of the array whose images are read and written here.
-fn image_size() -> usize
-    ensures { λ r. ⌜ r ≡ imageSize ⌝ }
+// Reads an image into the array of a part.
+#[no_mangle]
+pub extern "C" fn qillampu_read_image(
+    part: u16,
+    text: &[u8],
+    array: &mut [u8],
+    reply: &mut [u64],
+) -> u8
+    ensures { λ r. ⌜ ReadsThrough part (now (text .entry)) (now (array .entry)) (now (reply .entry)) r (now (array .exit)) (now (reply .exit)) ⌝ }
 {
-    let kind = kinds::kind_of(kinds::X4323);
-    kind.size as usize
+    telling::read_image(part, text, array, reply)
 }
 
-// Reads an image into an array.
+// Writes the image of a part's array at the start of `out`.
 #[no_mangle]
-pub extern "C" fn qillampu_read_image(text: &[u8], array: &mut [u8], reply: &mut [u64]) -> u8
-    ensures { λ r. ⌜ ReadsThrough imageSize (now (text .entry)) (now (array .entry)) (now (reply .entry)) r (now (array .exit)) (now (reply .exit)) ⌝ }
+pub extern "C" fn qillampu_write_image(
+    part: u16,
+    array: &[u8],
+    out: &mut [u8],
+    reply: &mut [u64],
+) -> u8
+    ensures { λ r. ⌜ WritesThrough part (now (array .entry)) (now (out .entry)) (now (reply .entry)) r (now (out .exit)) (now (reply .exit)) ⌝ }
 {
-    telling::read_image(image_size(), text, array, reply)
-}
-
-// Writes an array's image at the start of `out`.
-#[no_mangle]
-pub extern "C" fn qillampu_write_image(array: &[u8], out: &mut [u8], reply: &mut [u64]) -> u8
-    ensures { λ r. ⌜ WritesThrough imageSize (now (array .entry)) (now (out .entry)) (now (reply .entry)) r (now (out .exit)) (now (reply .exit)) ⌝ }
-{
-    telling::write_image(image_size(), array, out, reply)
+    telling::write_image(part, array, out, reply)
 }

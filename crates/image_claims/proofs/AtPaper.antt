@@ -10,7 +10,7 @@ use Rattle.forms.specs.Form.{rowSize}
 use Rattle.forms.specs.Writing.{imageText, lengthOf, mostLength}
 use Rattle.intel.specs.Intel.{intel}
 use Rattle.image.specs.Promises.{writeVerdict}
-use Rattle.image.proofs.Sizes.{kind-rows}
+use Rattle.image.proofs.Sizes.{kind-most, kind-rows}
 use Rattle.round_trip.specs.Words.{Rows}
 use Rattle.round_trip.specs.RoundTrip.{Takes, Fixed, Writers}
 use Rattle.image_cases.specs.ImageCases.{paperArray, paperText, ShownFor, P10}
@@ -28,7 +28,7 @@ room-from lengths =
           let m : mostLength intel (kindOf part .size) ≡ 44 * partRows part + 12 =
           ap (mostLength intel) (sym (kind-rows part)) ∙ lengths .rows (partRows part) in
           let e : length (imageText intel array) ≡ lengthOf intel array = lengths .answered array in
-          let n : mostLength intel (kindOf part .size) ≤ length out = omega arith in
+          let n : mostLength intel (kindOf part .size) ≤ length out = omega (arith, kind-most part) in
           let u : length (imageText intel array) ≤ mostLength intel (kindOf part .size) = rw a at (lengths .most array) in
           let s = eq-eqb (length array) (kindOf part .size) a in
           (rw (lt-ltb 0 (kindOf part .size) k, s, le-leb (mostLength intel (kindOf part .size)) (length out) n, e), omega arith);
@@ -50,7 +50,7 @@ paper-at part size rows room p s k n bytes m few trips door tidies twice enough 
     let long : length (paperArray size) ≡ kindOf part .size = bytes .size ∙ rw (← n) (kind-rows part) in
     record {
       door = λ out numbers out′ numbers′ old numbers₂ array′ numbers₂′ r r₂ h f w o g q.
-          let v = enough .room part (paperArray size) out (omega arith) long (rw (n, m) h) .0 ∙ ap accepted (ap length (p .written) ∙ paper-long) in
+          let v = enough .room part (paperArray size) out (omega arith) long (omega arith) .0 ∙ ap accepted (ap length (p .written) ∙ paper-long) in
           door .back part (paperArray size) out numbers out′ numbers′ old numbers₂ array′ numbers₂′ r r₂ 56 (bytes .bytes) f w v (o ∙ sym s) g q;
       fixed = fixed;
       tidied = tidies .habits part (omega arith) .keeps paperText (paperArray size) takes (fixed .fixed);
