@@ -12,7 +12,7 @@ use Rattle.part.specs.declared.state.Control.{Control}
 use Rattle.control.specs.Register.{readsOf}
 use Rattle.sample.specs.Run.{Part}
 use Rattle.waves.specs.Waves.{Capture, brisk, wait, start, sent, pageWrite, readFrom}
-use Rattle.runs.specs.Bench.{bytesIn, blankPart, partAt, answersAt, AcceptedAt, opening, registerByte, lastAnswers, clockedBits}
+use Rattle.runs.specs.Bench.{arrayBytes, blankPart, partAt, answersAt, AcceptedAt, opening, registerByte, lastAnswers, clockedBits}
 
 -- Such a part after captures, one after the other (State and time, each sample).
 abbrev pub benchPart : ℕ → List Capture → Part
@@ -51,9 +51,9 @@ wrapped = (5 ∷ 6 ∷ 7 ∷ 8 ∷ 9 ∷ 10 ∷ 11 ∷ 12 ∷ []) ++ replicate 5
 -- They fill 60 to 63 and 0 to 7, and the counter is at 8; in the next page it is the same (Bench cases, P5).
 pub record P5 (part : ℕ) : Type 0 where
   pub taken : Accepted part (twelve 0x03C) × Accepted part (twelve 0x07C)
-  pub page : benchPart part (twelve 0x03C) .array ≡ wrapped ++ replicate (bytesIn part - 64) 0xFF
+  pub page : benchPart part (twelve 0x03C) .array ≡ wrapped ++ replicate (arrayBytes part - 64) 0xFF
   pub counter : benchPart part (twelve 0x03C) .state .device .counter ≡ at 8
-  pub next : benchPart part (twelve 0x07C) .array ≡ replicate 64 0xFF ++ wrapped ++ replicate (bytesIn part - 128) 0xFF
+  pub next : benchPart part (twelve 0x07C) .array ≡ replicate 64 0xFF ++ wrapped ++ replicate (arrayBytes part - 128) 0xFF
   pub steps : benchPart part (twelve 0x07C) .state .device .counter ≡ at 0x048
 
 -- A start and a slave byte (Bytes on the wire, after a start).
@@ -99,7 +99,7 @@ pub record P8 (part : ℕ) : Type 0 where
   pub before : benchPart part (opening ++ brisk (registerByte 0x02) ∷ brisk (registerByte 0x06) ∷ []) .state .device .control ≡ latched
   pub same : benchPart part (three 0x02 0x06 0x67) .state .device .control ≡ latched
   pub time : benchPart part (three 0x02 0x06 0x67) .state .timers .write ≡ 0
-  pub array : benchPart part (three 0x02 0x06 0x67) .array ≡ replicate (bytesIn part) 0xFF
+  pub array : benchPart part (three 0x02 0x06 0x67) .array ≡ replicate (arrayBytes part) 0xFF
 
 -- A byte written, then 4,999 and 1 more (Bytes on the wire, stop).
 abbrev pub written5000 : List Capture

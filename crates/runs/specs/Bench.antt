@@ -12,8 +12,8 @@ use Rattle.waves.specs.Waves.{Capture, joined, wait, pageWrite}
 use Rattle.runs.specs.Runs.{afterCapture, answersTo, Taken}
 
 -- How many bytes the array of a part has: 16,384 on an X4283 and an X4285, else 4,096 (The part on our bench; request 2026-01).
-abbrev pub bytesIn : ℕ → ℕ
-bytesIn part = cond (eqb part 4283 || eqb part 4285) 16384 4096
+abbrev pub arrayBytes : ℕ → ℕ
+arrayBytes part = cond (eqb part 4283 || eqb part 4285) 16384 4096
 
 -- A part at power-up, with select 0, a stored byte and an array (State and time, power-up).
 abbrev pub holding : ℕ → ℕ → List ℕ → Part
@@ -21,7 +21,7 @@ holding part stored array = atPower part 0 stored array
 
 -- The same with an array all FFh (The part on our bench).
 abbrev pub blankPart : ℕ → ℕ → Part
-blankPart part stored = holding part stored (replicate (bytesIn part) 0xFF)
+blankPart part stored = holding part stored (replicate (arrayBytes part) 0xFF)
 
 -- A part after captures, one after the other (State and time, each sample).
 abbrev pub partAt : Part → List Capture → Part

@@ -6,21 +6,21 @@ use mathlib.Core.Path.{_≡_}
 use lib.ListN.{replicate}
 use Rattle.page.specs.Page.{at}
 use Rattle.sheet_cases.specs.ReadCases.{written}
-use Rattle.runs.specs.Bench.{bytesIn, blankPart, partAt, answersAt, AcceptedAt, lastAnswers}
+use Rattle.runs.specs.Bench.{arrayBytes, blankPart, partAt, answersAt, AcceptedAt, lastAnswers}
 
 -- 5Ah sent to a locked place after 02h: SDA stays high, no write time runs, the array stays and so does the counter (Bytes on the wire,
 -- array data).
 pub record Refused (part stored place : ℕ) : Type 0 where
   pub taken : AcceptedAt (blankPart part stored) (written place)
   pub answer : lastAnswers 7 (answersAt (blankPart part stored) (written place)) ≡ 3 ∷ 3 ∷ 3 ∷ 3 ∷ 3 ∷ 3 ∷ 3 ∷ []
-  pub array : partAt (blankPart part stored) (written place) .array ≡ replicate (bytesIn part) 0xFF
+  pub array : partAt (blankPart part stored) (written place) .array ≡ replicate (arrayBytes part) 0xFF
   pub counter : partAt (blankPart part stored) (written place) .state .device .counter ≡ at place
 
 -- 5Ah sent to any other place: SDA is low from the eighth fall to the ninth, the write time runs from the stop on, and the byte is there.
 pub record Stored (part stored place : ℕ) : Type 0 where
   pub taken : AcceptedAt (blankPart part stored) (written place)
   pub answer : lastAnswers 7 (answersAt (blankPart part stored) (written place)) ≡ 2 ∷ 2 ∷ 2 ∷ 3 ∷ 3 ∷ 3 ∷ 7 ∷ []
-  pub array : partAt (blankPart part stored) (written place) .array ≡ replicate place 0xFF ++ 0x5A ∷ replicate (bytesIn part - 1 - place) 0xFF
+  pub array : partAt (blankPart part stored) (written place) .array ≡ replicate place 0xFF ++ 0x5A ∷ replicate (arrayBytes part - 1 - place) 0xFF
 
 -- BP1, BP0 and BP2 are bits 4, 3 and 0 of the stored byte: 10h has code 2, 18h code 3, 01h, 09h, 11h and 19h codes 4 to 7. They lock
 -- nothing, everything, and the first 1, 2, 4 and 8 pages of 64 bytes (Control register).

@@ -13,6 +13,7 @@ ghost use Rattle.ground.specs.Kind.{kindOf, known};
 ghost use Rattle.forms.specs.Writing.{imageText, mostLength};
 ghost use Rattle.intel.specs.Intel.{intel};
 ghost use Rattle.texts.specs.Laying.{Starts};
+ghost use Rattle.words.specs.Words.{partNamed};
 ghost use Rattle.tidying.specs.Shown.{shownOf};
 
 // Writes the fixed form of a part's array over `out`, or the refusal's line, and answers the length.
@@ -60,4 +61,11 @@ pub fn fixed_form(part: u16, text: &[u8], out: &mut [u8; image::LONGEST]) -> usi
 {
     let mut array = [0u8; image::LARGEST];
     put_within(part, text, &mut array, out)
+}
+
+// The same for the part that the program's word names, if there is one.
+pub fn by_word(given: bool, word: &[u8], text: &[u8], out: &mut [u8; image::LONGEST]) -> usize
+    ensures { λ r. ⌜ Starts (shownOf (partNamed given (now (word .entry))) (now (text .entry))) (now (out .entry)) r (now (out .exit)) ⌝ }
+{
+    fixed_form(words::part_named(given, word), text, out)
 }

@@ -10,32 +10,32 @@ use lib.ListN.{length, getD, take, drop, length-drop, drop-of-length-le}
 use lib.Seq.{drop-cons, drop-length, take-all}
 use borrow.Author.Tests.{leb-true, leb-false, lt-ltb, le-ltb, eq-eqb, ne-eqb}
 use Rattle.ground.proofs.Tests.{and-split}
-use Rattle.words.specs.Words.{ten, sixteen, within, digitOf, allDigits, numeral, valueOf, markedBy, marked, isNumber, numberBy, numberOf}
-use Rattle.words.specs.Marks.{Begins}
+use Rattle.words.specs.Words.{decimalBase, hexBase, between, figureOf, allFigures, numeral, figuresValue, afterMarkBy, afterMark, isNumber, countsBy, countsAs}
+use Rattle.words.specs.Marks.{MarkEnds}
 
 -- A character within two others is not below the first.
-pub within-low : (low high c : ℕ) → within low high c ≡ true → low ≤ c
+pub within-low : (low high c : ℕ) → between low high c ≡ true → low ≤ c
 within-low low high c e = leb-true low c (and-split (leb low c) (leb c high) e .0)
 
-within-high : (low high c : ℕ) → within low high c ≡ true → c ≤ high
+within-high : (low high c : ℕ) → between low high c ≡ true → c ≤ high
 within-high low high c e = leb-true c high (and-split (leb low c) (leb c high) e .1)
 
 -- A character by where it lies.
 module _ (c : ℕ) where
-  pub digit-figure : within 0x30 0x39 c ≡ true → c - 0x30 ≡ digitOf c
-  unfolding digitOf
+  pub digit-figure : between 0x30 0x39 c ≡ true → c - 0x30 ≡ figureOf c
+  unfolding figureOf
   digit-figure e = rw e
 
-  pub digit-upper : within 0x30 0x39 c ≡ false → within 0x41 0x46 c ≡ true → c - 0x41 + 10 ≡ digitOf c
-  unfolding digitOf
+  pub digit-upper : between 0x30 0x39 c ≡ false → between 0x41 0x46 c ≡ true → c - 0x41 + 10 ≡ figureOf c
+  unfolding figureOf
   digit-upper e f = rw (e, f)
 
-  pub digit-lower : within 0x30 0x39 c ≡ false → within 0x41 0x46 c ≡ false → within 0x61 0x66 c ≡ true → c - 0x61 + 10 ≡ digitOf c
-  unfolding digitOf
+  pub digit-lower : between 0x30 0x39 c ≡ false → between 0x41 0x46 c ≡ false → between 0x61 0x66 c ≡ true → c - 0x61 + 10 ≡ figureOf c
+  unfolding figureOf
   digit-lower e f g = rw (e, f, g)
 
-  pub digit-none : within 0x30 0x39 c ≡ false → within 0x41 0x46 c ≡ false → within 0x61 0x66 c ≡ false → 16 ≡ digitOf c
-  unfolding digitOf
+  pub digit-none : between 0x30 0x39 c ≡ false → between 0x41 0x46 c ≡ false → between 0x61 0x66 c ≡ false → 16 ≡ figureOf c
+  unfolding figureOf
   digit-none e f g = rw (e, f, g)
 
 -- A number that is cut to the largest value before it is counted on is that of the whole cut at the end.
@@ -59,21 +59,21 @@ counted-on n base d power rest =
 
 -- What the digits so far and those that are left come to.
 abbrev pub comesTo : ℕ → ℕ → List ℕ → ℕ
-comesTo base n left = n * base ^ length left + valueOf base left
+comesTo base n left = n * base ^ length left + figuresValue base left
 
 -- One turn: a digit joins those so far, and the number is cut.
-pub value-turn : (base most n i : ℕ) (ds : List ℕ) {r : ℕ} → i < length ds → r ≡ min (n * base + digitOf (getD ds i 0)) most
+pub value-turn : (base most n i : ℕ) (ds : List ℕ) {r : ℕ} → i < length ds → r ≡ min (n * base + figureOf (getD ds i 0)) most
     → min (comesTo base r (drop (suc i) ds)) most ≡ min (comesTo base n (drop i ds)) most
 value-turn base most n i ds h e =
     let left = drop (suc i) ds in
-    let d = digitOf (getD ds i 0) in
+    let d = figureOf (getD ds i 0) in
     rw (e, drop-cons ds i 0 h, pow-suc base (length left))
-    (cut-once (n * base + d) (base ^ length left) (valueOf base left) most
-    ∙ ap (λ (x : ℕ). min x most) (counted-on n base d (base ^ length left) (valueOf base left)))
+    (cut-once (n * base + d) (base ^ length left) (figuresValue base left) most
+    ∙ ap (λ (x : ℕ). min x most) (counted-on n base d (base ^ length left) (figuresValue base left)))
 
 -- Before the first turn all is left, after the last nothing.
-pub value-start : (base most : ℕ) (ds : List ℕ) → min (comesTo base 0 (drop 0 ds)) most ≡ min (valueOf base ds) most
-value-start base most ds = rw (zero-mul (base ^ length ds), zero-add (valueOf base ds))
+pub value-start : (base most : ℕ) (ds : List ℕ) → min (comesTo base 0 (drop 0 ds)) most ≡ min (figuresValue base ds) most
+value-start base most ds = rw (zero-mul (base ^ length ds), zero-add (figuresValue base ds))
 
 pub value-end : (base most n i : ℕ) (ds : List ℕ) {whole : ℕ} → length ds ≤ i → n ≤ most
     → min (comesTo base n (drop i ds)) most ≡ whole → n ≡ whole
@@ -88,83 +88,83 @@ unfolding numeral
 numeral-none base [] h = refl
 numeral-none base (c ∷ cs) h = absurd (omega arith)
 
-pub numeral-some : (base : ℕ) (cs : List ℕ) → (length cs ≡ 0 → ⊥) → allDigits base cs ≡ numeral base cs
+pub numeral-some : (base : ℕ) (cs : List ℕ) → (length cs ≡ 0 → ⊥) → allFigures base cs ≡ numeral base cs
 unfolding numeral
 numeral-some base [] h = absurd (h refl)
 numeral-some base (c ∷ cs) h = refl
 
 module _ (base : ℕ) (cs : List ℕ) (i : ℕ) where
-  pub digits-end : length cs ≤ i → true ≡ allDigits base (drop i cs)
+  pub digits-end : length cs ≤ i → true ≡ allFigures base (drop i cs)
   digits-end h = rw (drop-of-length-le cs h)
 
-  module _ {d : ℕ} (h : i < length cs) (e : d ≡ digitOf (getD cs i 0)) where
-    pub digit-fails : base ≤ d → false ≡ allDigits base (drop i cs)
+  module _ {d : ℕ} (h : i < length cs) (e : d ≡ figureOf (getD cs i 0)) where
+    pub digit-fails : base ≤ d → false ≡ allFigures base (drop i cs)
     digit-fails k = rw (drop-cons cs i 0 h, ← e, le-ltb d base k)
 
-    pub digit-holds : d < base → allDigits base (drop (suc i) cs) ≡ allDigits base (drop i cs)
+    pub digit-holds : d < base → allFigures base (drop (suc i) cs) ≡ allFigures base (drop i cs)
     digit-holds k = rw (drop-cons cs i 0 h, ← e, lt-ltb d base k)
 
 -- A word with the mark, and one without.
-pub mark-found : (word : List ℕ) → 2 ≤ length word → getD word 0 0 ≡ 0x30 → getD word 1 0 ≡ 0x78 → Begins word 2
-unfolding marked
+pub mark-found : (word : List ℕ) → 2 ≤ length word → getD word 0 0 ≡ 0x30 → getD word 1 0 ≡ 0x78 → MarkEnds word 2
+unfolding afterMark
 mark-found [] h e f = absurd (omega arith)
 mark-found (a ∷ []) h e f = absurd (omega arith)
 mark-found (a ∷ b ∷ cs) h e f = record { inside = h; rest = rw (eq-eqb a 0x30 e, eq-eqb b 0x78 f) }
 
-pub mark-short : (word : List ℕ) → length word < 2 → marked word ≡ []
-unfolding marked
+pub mark-short : (word : List ℕ) → length word < 2 → afterMark word ≡ []
+unfolding afterMark
 mark-short [] h = refl
 mark-short (a ∷ []) h = refl
 mark-short (a ∷ b ∷ cs) h = absurd (omega arith)
 
-pub mark-first : (word : List ℕ) → 2 ≤ length word → (getD word 0 0 ≡ 0x30 → ⊥) → marked word ≡ []
-unfolding marked
+pub mark-first : (word : List ℕ) → 2 ≤ length word → (getD word 0 0 ≡ 0x30 → ⊥) → afterMark word ≡ []
+unfolding afterMark
 mark-first [] h n = absurd (omega arith)
 mark-first (a ∷ []) h n = absurd (omega arith)
 mark-first (a ∷ b ∷ cs) h n = rw (ne-eqb a 0x30 n)
 
-pub mark-second : (word : List ℕ) → 2 ≤ length word → getD word 0 0 ≡ 0x30 → (getD word 1 0 ≡ 0x78 → ⊥) → marked word ≡ []
-unfolding marked
+pub mark-second : (word : List ℕ) → 2 ≤ length word → getD word 0 0 ≡ 0x30 → (getD word 1 0 ≡ 0x78 → ⊥) → afterMark word ≡ []
+unfolding afterMark
 mark-second [] h e n = absurd (omega arith)
 mark-second (a ∷ []) h e n = absurd (omega arith)
 mark-second (a ∷ b ∷ cs) h e n = rw (eq-eqb a 0x30 e, ne-eqb b 0x78 n)
 
-pub mark-none : (word : List ℕ) → marked word ≡ [] → Begins word (length word)
+pub mark-none : (word : List ℕ) → afterMark word ≡ [] → MarkEnds word (length word)
 mark-none word e = record { inside = omega arith; rest = drop-length word ∙ sym e }
 
 -- A word by what the tests of its characters say, the hexadecimal digits being its part from a place on.
 module _ (word : List ℕ) where
-  pub decimal-is : numeral ten word ≡ true → true ≡ isNumber word
+  pub decimal-is : numeral decimalBase word ≡ true → true ≡ isNumber word
   unfolding isNumber
   decimal-is e = rw e
 
-  pub number-decimal : (most : ℕ) {r : ℕ} → numeral ten word ≡ true → r ≡ min (valueOf ten word) most → r ≡ numberOf most word
-  unfolding numberOf
+  pub number-decimal : (most : ℕ) {r : ℕ} → numeral decimalBase word ≡ true → r ≡ min (figuresValue decimalBase word) most → r ≡ countsAs most word
+  unfolding countsAs
   number-decimal most e f = rw (f, e)
 
-  module _ (from : ℕ) (begins : Begins word from) (e : numeral ten word ≡ false) where
-    mark-part : take (length word - from) (drop from word) ≡ marked word
+  module _ (from : ℕ) (begins : MarkEnds word from) (e : numeral decimalBase word ≡ false) where
+    mark-part : take (length word - from) (drop from word) ≡ afterMark word
     mark-part = take-all (length word - from) (drop from word) (simp length-drop (omega arith)) ∙ begins .rest
 
-    pub marked-is : {r : Bool} → r ≡ numeral sixteen (take (length word - from) (drop from word)) → r ≡ isNumber word
+    pub marked-is : {r : Bool} → r ≡ numeral hexBase (take (length word - from) (drop from word)) → r ≡ isNumber word
     unfolding isNumber
     marked-is f = rw e (rw mark-part at f)
 
-    pub number-marked : (most : ℕ) {r : ℕ} → numeral sixteen (take (length word - from) (drop from word)) ≡ true
-        → r ≡ min (valueOf sixteen (take (length word - from) (drop from word))) most → r ≡ numberOf most word
-    unfolding numberOf
+    pub number-marked : (most : ℕ) {r : ℕ} → numeral hexBase (take (length word - from) (drop from word)) ≡ true
+        → r ≡ min (figuresValue hexBase (take (length word - from) (drop from word))) most → r ≡ countsAs most word
+    unfolding countsAs
     number-marked most f g = rw (e, rw mark-part at f) (rw mark-part at g)
 
-    pub number-neither : (most : ℕ) → numeral sixteen (take (length word - from) (drop from word)) ≡ false → most ≡ numberOf most word
-    unfolding numberOf
+    pub number-neither : (most : ℕ) → numeral hexBase (take (length word - from) (drop from word)) ≡ false → most ≡ countsAs most word
+    unfolding countsAs
     number-neither most f = rw (e, rw mark-part at f)
 
 -- No word counts more than the field's largest value.
-most-by : (decimal hexadecimal : Bool) (most : ℕ) (word : List ℕ) → numberBy decimal hexadecimal most word ≤ most
-most-by true hexadecimal most word = min-le-right (valueOf ten word) most
-most-by false true most word = min-le-right (valueOf sixteen (marked word)) most
+most-by : (decimal hexadecimal : Bool) (most : ℕ) (word : List ℕ) → countsBy decimal hexadecimal most word ≤ most
+most-by true hexadecimal most word = min-le-right (figuresValue decimalBase word) most
+most-by false true most word = min-le-right (figuresValue hexBase (afterMark word)) most
 most-by false false most word = omega arith
 
-pub number-within : (most : ℕ) (word : List ℕ) {r : ℕ} → r ≡ numberOf most word → r ≤ most
-unfolding numberOf
-number-within most word e = rw e (most-by (numeral ten word) (numeral sixteen (marked word)) most word)
+pub number-within : (most : ℕ) (word : List ℕ) {r : ℕ} → r ≡ countsAs most word → r ≤ most
+unfolding countsAs
+number-within most word e = rw e (most-by (numeral decimalBase word) (numeral hexBase (afterMark word)) most word)

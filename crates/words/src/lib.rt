@@ -1,8 +1,9 @@
 // Number words of a command line: decimal, or hexadecimal after `0x`.
+use ground::kinds;
 ghost use mathlib.Core.Path.{_≡_};
 ghost use Prim.Native.Nat.{_+_, _*_, min};
-ghost use Rattle.words.specs.Words.{widestPart, within, digitOf, numeral, valueOf, isNumber, numberOf};
-ghost use Rattle.words.specs.Marks.{Begins};
+ghost use Rattle.words.specs.Words.{partNamed, between, figureOf, numeral, figuresValue, isNumber, countsAs};
+ghost use Rattle.words.specs.Marks.{MarkEnds};
 
 const TEN: u8 = 10;
 
@@ -12,7 +13,7 @@ const SIXTEEN: u8 = 16;
 const WIDEST_PART: u32 = 65_535;
 
 fn within(low: u8, high: u8, character: u8) -> bool
-    ensures { λ r. ⌜ r ≡ within low high character ⌝ }
+    ensures { λ r. ⌜ r ≡ between low high character ⌝ }
 {
     if character >= low {
         return character <= high;
@@ -22,7 +23,7 @@ fn within(low: u8, high: u8, character: u8) -> bool
 
 // The value of a character as a digit.
 fn digit(character: u8) -> u8
-    ensures { λ r. ⌜ r ≡ digitOf character ⌝ }
+    ensures { λ r. ⌜ r ≡ figureOf character ⌝ }
 {
     if within(0x30, 0x39, character) {
         return character - 0x30;
@@ -64,14 +65,14 @@ fn lesser(value: u64, most: u32) -> u32
 
 // A number with one digit more, as far as it is not too wide.
 fn with_digit(value: u32, base: u8, character: u8, most: u32) -> u32
-    ensures { λ r. ⌜ r ≡ min (value * base + digitOf character) most ⌝ }
+    ensures { λ r. ⌜ r ≡ min (value * base + figureOf character) most ⌝ }
 {
     lesser(value as u64 * base as u64 + digit(character) as u64, most)
 }
 
 // The value of a number's digits, or `most` where that is less.
 fn value(base: u8, digits: &[u8], most: u32) -> u32
-    ensures { λ r. ⌜ r ≡ min (valueOf base (now (digits .entry))) most ⌝ }
+    ensures { λ r. ⌜ r ≡ min (figuresValue base (now (digits .entry))) most ⌝ }
 {
     let mut so_far = 0;
     let mut i = 0;
@@ -84,7 +85,7 @@ fn value(base: u8, digits: &[u8], most: u32) -> u32
 
 // Where the digits of a hexadecimal word begin; its end where it has no mark.
 fn after_mark(word: &[u8]) -> usize
-    ensures { λ r. ⌜ Begins (now (word .entry)) r ⌝ }
+    ensures { λ r. ⌜ MarkEnds (now (word .entry)) r ⌝ }
 {
     if word.len() < 2 {
         return word.len();
@@ -111,7 +112,7 @@ pub fn is_number(word: &[u8]) -> bool
 
 // What a word counts in a field whose largest value is `most`: its value, or `most` where it is no number or too wide.
 pub fn number_of(word: &[u8], most: u32) -> u32
-    ensures { λ r. ⌜ r ≡ numberOf most (now (word .entry)) ⌝ }
+    ensures { λ r. ⌜ r ≡ countsAs most (now (word .entry)) ⌝ }
 {
     if is_numeral(TEN, word) {
         return value(TEN, word, most);
@@ -123,9 +124,12 @@ pub fn number_of(word: &[u8], most: u32) -> u32
     most
 }
 
-// The part that a word names.
-pub fn part_of(word: &[u8]) -> u16
-    ensures { λ r. ⌜ r ≡ numberOf widestPart (now (word .entry)) ⌝ }
+// The part that a program's word names, if there is a word.
+pub fn part_named(given: bool, word: &[u8]) -> u16
+    ensures { λ r. ⌜ r ≡ partNamed given (now (word .entry)) ⌝ }
 {
-    number_of(word, WIDEST_PART) as u16
+    if given {
+        return number_of(word, WIDEST_PART) as u16;
+    }
+    kinds::X4323
 }

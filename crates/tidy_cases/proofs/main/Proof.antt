@@ -6,10 +6,10 @@ use Rattle.tidy_cases.proofs.main.Statement.{statement}
 use Rattle.tidy_cases.proofs.main.Tie as tie
 
 abbrev Inv-loop : tie.InvT-loop
-Inv-loop count number₀ number = Unit {0}
+Inv-loop count turn₀ position₀ turn position = Unit {0}
 
 abbrev μ-loop : tie.MeasureT-loop
-μ-loop count number₀ number = count - number
+μ-loop count turn₀ position₀ turn position = count - position
 
 arg-count-requires : tie.Need-arg-count-requires Inv-loop μ-loop
 arg-count-requires c κs = search needs
@@ -17,11 +17,11 @@ arg-count-requires c κs = search needs
 loop-holds : tie.Need-loop-holds Inv-loop μ-loop
 loop-holds c = search needs
 
-show-argument-requires : tie.Need-show-argument-requires Inv-loop μ-loop
-show-argument-requires c κs = search needs
+take-argument-requires : tie.Need-take-argument-requires Inv-loop μ-loop
+take-argument-requires c κs = search needs
 
-add-number : tie.Need-add-number Inv-loop μ-loop
-add-number c = search needs
+add-position : tie.Need-add-position Inv-loop μ-loop
+add-position c = search needs
 
 loop-less : tie.Need-loop-less Inv-loop μ-loop
 loop-less c = omega arith
@@ -43,8 +43,8 @@ main-spec =
     μ-loop
     arg-count-requires
     loop-holds
-    show-argument-requires
-    add-number
+    take-argument-requires
+    add-position
     loop-less
     loop-again
     returns

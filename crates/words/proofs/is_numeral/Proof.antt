@@ -4,13 +4,13 @@ use mathlib.Core.Path.{_≡_, _∙_}
 use native.Mathlib.Numerals.{add-one}
 use borrow.Author.Needs.{needs}
 use lib.ListN.{length, drop}
-use Rattle.words.specs.Words.{allDigits, numeral}
+use Rattle.words.specs.Words.{allFigures, numeral}
 use Rattle.words.proofs.WordLaws.{numeral-none, numeral-some, digits-end, digit-fails, digit-holds}
 use Rattle.words.proofs.is_numeral.Statement.{statement}
 use Rattle.words.proofs.is_numeral.Tie as tie
 
 abbrev Inv-loop : tie.InvT-loop
-Inv-loop base characters i₀ i = (i ≤ length characters) × (allDigits base (drop i characters) ≡ numeral base characters)
+Inv-loop base characters i₀ i = (i ≤ length characters) × (allFigures base (drop i characters) ≡ numeral base characters)
 
 abbrev μ-loop : tie.MeasureT-loop
 μ-loop base characters i₀ i = length characters - i

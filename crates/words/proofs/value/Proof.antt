@@ -6,14 +6,14 @@ use native.Mathlib.Nat.{min-le-right}
 use native.Mathlib.Numerals.{add-one}
 use borrow.Author.Needs.{needs}
 use lib.ListN.{length, drop}
-use Rattle.words.specs.Words.{valueOf}
+use Rattle.words.specs.Words.{figuresValue}
 use Rattle.words.proofs.WordLaws.{comesTo, value-start, value-turn, value-end}
 use Rattle.words.proofs.value.Statement.{statement}
 use Rattle.words.proofs.value.Tie as tie
 
 abbrev Inv-loop : tie.InvT-loop
 Inv-loop base digits most so-far₀ i₀ so-far i =
-    (i ≤ length digits) × (so-far ≤ most) × (min (comesTo base so-far (drop i digits)) most ≡ min (valueOf base digits) most)
+    (i ≤ length digits) × (so-far ≤ most) × (min (comesTo base so-far (drop i digits)) most ≡ min (figuresValue base digits) most)
 
 abbrev μ-loop : tie.MeasureT-loop
 μ-loop base digits most so-far₀ i₀ so-far i = length digits - i
