@@ -16,9 +16,9 @@ demand-1 =
       power-up = λ part select stored r k p x v. (x .reply ∙ v, x .state ∙ rw v);
       replay = λ s es ls array row r array′ row′ k p x v.
           (x .reply ∙ v, x .state ∙ rw v, x .kept ∙ rw v, x .said ∙ rw v);
-      read-image = λ size text array r array′ k p x v. (x .reply ∙ rw v, x .kept ∙ rw v);
-      write-image = λ size array out r out′ k p x v. (x .reply ∙ v, x .said ∙ rw v);
-      tidy = λ size text out r out′ k p x v. (x .count ∙ rw v, x .shown ∙ rw v);
+      read-image = λ part text array r array′ k p x v. (x .reply ∙ rw v, x .kept ∙ rw v);
+      write-image = λ part array out r out′ k p x v. (x .reply ∙ v, x .said ∙ rw v);
+      tidy = λ part text out r out′ k p x v. (x .count ∙ rw v, x .shown ∙ rw v);
       size = λ part r x v. x .said ∙ rw v;
       door-power-up = λ part select stored es ls array row numbers r array′ row′ numbers′ k p x h v.
           let e = eq-eqb (length numbers) 2 h in
@@ -26,19 +26,19 @@ demand-1 =
       door-replay = λ part select stored es ls array row numbers r array′ row′ numbers′ n k p x h u v.
           let e = eq-eqb (length numbers) 2 h in
           (x .answer ∙ rw e, x .reply ∙ rw (e, u, v), x .kept ∙ rw (e, u, v), x .said ∙ rw (e, u, v));
-      door-read-image = λ size text array numbers r array′ numbers′ k p x h v.
+      door-read-image = λ part text array numbers r array′ numbers′ k p x h v.
           let e = eq-eqb (length numbers) 2 h in
           (x .answer ∙ rw e, x .reply ∙ rw (e, v), x .kept ∙ rw (e, v));
-      door-write-image = λ size array out numbers r out′ numbers′ k p x h v.
+      door-write-image = λ part array out numbers r out′ numbers′ k p x h v.
           let e = eq-eqb (length numbers) 2 h in
           (x .answer ∙ rw e, x .reply ∙ rw (e, v), x .said ∙ rw (e, v));
       door-row-replay = λ part select stored es ls array row numbers r array′ row′ numbers′ x h.
           let e = ne-eqb (length numbers) 2 h in
           (x .answer ∙ rw e, x .reply ∙ rw e, x .kept ∙ rw e, x .said ∙ rw e);
-      door-row-read-image = λ size text array numbers r array′ numbers′ x h.
+      door-row-read-image = λ part text array numbers r array′ numbers′ x h.
           let e = ne-eqb (length numbers) 2 h in
           (x .answer ∙ rw e, x .reply ∙ rw e, x .kept ∙ rw e);
-      door-row-write-image = λ size array out numbers r out′ numbers′ x h.
+      door-row-write-image = λ part array out numbers r out′ numbers′ x h.
           let e = ne-eqb (length numbers) 2 h in
           (x .answer ∙ rw e, x .reply ∙ rw e, x .said ∙ rw e);
       list = λ s es ls array row r array′ row′ k p x v.

@@ -46,11 +46,11 @@ one-reply =
       replay = λ s es ls array row r q x y. triples (replayed-one (r .0) (q .0) (cc) (cc)) (cc) (cc);
       register = λ s r q x y. cc;
       size = λ part r q x y. size-one r q (cc);
-      read-image = λ size text array r q x y. pairs (meant-one (r .0) (q .0) (cc)) (cc);
-      write-image = λ size array out r q x y. pairs (meant-one (r .0) (q .0) (cc)) (cc);
-      tidy = λ size text out r q x y. pairs (cc) (cc);
+      read-image = λ part text array r q x y. pairs (meant-one (r .0) (q .0) (cc)) (cc);
+      write-image = λ part array out r q x y. pairs (meant-one (r .0) (q .0) (cc)) (cc);
+      tidy = λ part text out r q x y. pairs (cc) (cc);
       door-replay = λ part select stored es ls array row numbers r q x y. fours (cc) (cc) (cc) (cc);
-      door-read-image = λ size text array numbers r q x y. triples (cc) (cc) (cc);
-      door-write-image = λ size array out numbers r q x y. triples (cc) (cc) (cc);
+      door-read-image = λ part text array numbers r q x y. triples (cc) (cc) (cc);
+      door-write-image = λ part array out numbers r q x y. triples (cc) (cc) (cc);
       list = λ s es ls array row r q x y. triples (listed-one (r .0) (q .0) (cc) (cc)) (cc) (cc);
     }

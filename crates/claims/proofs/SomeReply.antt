@@ -51,15 +51,15 @@ some-reply =
           ((r, partAfter v es ls p .array, rowAfter v es ls p row), record { reply = reply-means v; state = refl; kept = refl; said = refl });
       register = λ s. (readsOf (s .device .control), record { byte = refl });
       size = λ part. (sizeFor (known part) (kindOf part .size), record { said = size-means (known part) (kindOf part .size) });
-      read-image = λ size text array.
-          let t = imageOf intel size text array in
+      read-image = λ part text array.
+          let t = imageOf intel part text array in
           let v = verdictOf t (length text) in
           ((replyOf v, arrayAfter t array), record { reply = reply-means v; kept = refl });
-      write-image = λ size array out.
-          let v = writeVerdict intel size array out in
+      write-image = λ part array out.
+          let v = writeVerdict intel part array out in
           ((replyOf v, outAfter intel v array out), record { reply = reply-means v; said = refl });
-      tidy = λ size text out.
-          let t = shownOf size text in
+      tidy = λ part text out.
+          let t = shownOf part text in
           ((length t, t ++ drop (length t) out), starts-with t t out refl);
       door-replay = λ part select stored es ls array row numbers.
           let v = captureVerdict part select stored es ls array row in
@@ -68,14 +68,14 @@ some-reply =
             (answerBy b, leftOr b (partAfter v es ls p .array) array, leftOr b (rowAfter v es ls p row) row, leftOr b (told v) numbers),
             record { answer = refl; reply = refl; kept = refl; said = refl },
           );
-      door-read-image = λ size text array numbers.
-          let t = imageOf intel size text array in
+      door-read-image = λ part text array numbers.
+          let t = imageOf intel part text array in
           let b = fits numbers in (
             (answerBy b, leftOr b (arrayAfter t array) array, leftOr b (told (verdictOf t (length text))) numbers),
             record { answer = refl; reply = refl; kept = refl },
           );
-      door-write-image = λ size array out numbers.
-          let v = writeVerdict intel size array out in
+      door-write-image = λ part array out numbers.
+          let v = writeVerdict intel part array out in
           let b = fits numbers in (
             (answerBy b, leftOr b (outAfter intel v array out) out, leftOr b (told v) numbers),
             record { answer = refl; reply = refl; said = refl },

@@ -23,13 +23,12 @@ use Rattle.ground.specs.Size.{sizeMeant, SizesPart}
 use Rattle.power.specs.Power.{poweredUp}
 use Rattle.power.specs.Promises.{PowersUp}
 use Rattle.twin.specs.Promises.{Replays}
-use lib.Dec.{leb}
 use Rattle.intel.specs.Intel.{intel}
-use Rattle.forms.specs.Reading.{bad, readingOf}
-use Rattle.image.specs.Promises.{largestSize, imageBy, imageOf, writeVerdict, ReadsImage, WritesImage}
+use Rattle.forms.specs.Reading.{bad}
+use Rattle.image.specs.Promises.{imageOf, writeVerdict, ReadsImage, WritesImage}
 use Rattle.texts.specs.Refusal.{refusalLine}
 use Rattle.texts.specs.Laying.{Starts}
-use Rattle.tidying.specs.Shown.{shownOf}
+use Rattle.tidying.specs.Shown.{textOf, shownOf}
 use Rattle.telling.specs.Told.{ReadsThrough, WritesThrough}
 use Rattle.door.specs.Promises.{ReplaysOnce}
 use Rattle.transfers.specs.declared.Listed.{Listed}
@@ -43,12 +42,12 @@ pub record Demand1 : Type 0 where
   pub replay : (s : State) (es ls array row : List ℕ) (r : Replayed) (array′ row′ : List ℕ) (k p : ℕ)
       → Replays s es ls array row r array′ row′ → judgedOf s es ls array row ≡ refused k p
       → (meant (r .reply) ≡ refused k p) × (r .state ≡ s) × (array′ ≡ array) × (row′ ≡ row)
-  pub read-image : (size : ℕ) (text array : List ℕ) (r : Reply) (array′ : List ℕ) (k p : ℕ)
-      → ReadsImage intel size text array r array′ → imageOf intel size text array ≡ bad k p → (meant r ≡ refused k p) × (array′ ≡ array)
-  pub write-image : (size : ℕ) (array out : List ℕ) (r : Reply) (out′ : List ℕ) (k p : ℕ)
-      → WritesImage intel size array out r out′ → writeVerdict intel size array out ≡ refused k p → (meant r ≡ refused k p) × (out′ ≡ out)
-  pub tidy : (size : ℕ) (text out : List ℕ) (r : ℕ) (out′ : List ℕ) (k p : ℕ)
-      → Starts (shownOf size text) out r out′ → imageBy (leb size largestSize) (readingOf intel size text) ≡ bad k p
+  pub read-image : (part : ℕ) (text array : List ℕ) (r : Reply) (array′ : List ℕ) (k p : ℕ)
+      → ReadsImage intel part text array r array′ → imageOf intel part text array ≡ bad k p → (meant r ≡ refused k p) × (array′ ≡ array)
+  pub write-image : (part : ℕ) (array out : List ℕ) (r : Reply) (out′ : List ℕ) (k p : ℕ)
+      → WritesImage intel part array out r out′ → writeVerdict intel part array out ≡ refused k p → (meant r ≡ refused k p) × (out′ ≡ out)
+  pub tidy : (part : ℕ) (text out : List ℕ) (r : ℕ) (out′ : List ℕ) (k p : ℕ)
+      → Starts (shownOf part text) out r out′ → textOf part text ≡ bad k p
       → (r ≡ length (refusalLine k p)) × (out′ ≡ refusalLine k p ++ drop r out)
   pub size : (part : ℕ) (r : Size) → SizesPart part r → known part ≡ false → sizeMeant r ≡ refused 1 0
   pub door-power-up : (part select stored : ℕ) (es ls array row numbers : List ℕ) (r : ℕ) (array′ row′ numbers′ : List ℕ) (k p : ℕ)
@@ -59,21 +58,21 @@ pub record Demand1 : Type 0 where
       → ReplaysOnce part select stored es ls array row numbers r array′ row′ numbers′ → length numbers ≡ 2
       → powerOf part select stored ≡ accepted n → judgedOf (poweredUp part select stored) es ls array row ≡ refused k p
       → (r ≡ 1) × (numbers′ ≡ k ∷ p ∷ []) × (array′ ≡ array) × (row′ ≡ row)
-  pub door-read-image : (size : ℕ) (text array numbers : List ℕ) (r : ℕ) (array′ numbers′ : List ℕ) (k p : ℕ)
-      → ReadsThrough size text array numbers r array′ numbers′ → length numbers ≡ 2 → imageOf intel size text array ≡ bad k p
+  pub door-read-image : (part : ℕ) (text array numbers : List ℕ) (r : ℕ) (array′ numbers′ : List ℕ) (k p : ℕ)
+      → ReadsThrough part text array numbers r array′ numbers′ → length numbers ≡ 2 → imageOf intel part text array ≡ bad k p
       → (r ≡ 1) × (numbers′ ≡ k ∷ p ∷ []) × (array′ ≡ array)
-  pub door-write-image : (size : ℕ) (array out numbers : List ℕ) (r : ℕ) (out′ numbers′ : List ℕ) (k p : ℕ)
-      → WritesThrough size array out numbers r out′ numbers′ → length numbers ≡ 2 → writeVerdict intel size array out ≡ refused k p
+  pub door-write-image : (part : ℕ) (array out numbers : List ℕ) (r : ℕ) (out′ numbers′ : List ℕ) (k p : ℕ)
+      → WritesThrough part array out numbers r out′ numbers′ → length numbers ≡ 2 → writeVerdict intel part array out ≡ refused k p
       → (r ≡ 1) × (numbers′ ≡ k ∷ p ∷ []) × (out′ ≡ out)
   -- by our choice nothing is done for a reply row that is not two numbers long
   pub door-row-replay : (part select stored : ℕ) (es ls array row numbers : List ℕ) (r : ℕ) (array′ row′ numbers′ : List ℕ)
       → ReplaysOnce part select stored es ls array row numbers r array′ row′ numbers′ → ¬ (length numbers ≡ 2)
       → (r ≡ 0) × (numbers′ ≡ numbers) × (array′ ≡ array) × (row′ ≡ row)
-  pub door-row-read-image : (size : ℕ) (text array numbers : List ℕ) (r : ℕ) (array′ numbers′ : List ℕ)
-      → ReadsThrough size text array numbers r array′ numbers′ → ¬ (length numbers ≡ 2)
+  pub door-row-read-image : (part : ℕ) (text array numbers : List ℕ) (r : ℕ) (array′ numbers′ : List ℕ)
+      → ReadsThrough part text array numbers r array′ numbers′ → ¬ (length numbers ≡ 2)
       → (r ≡ 0) × (numbers′ ≡ numbers) × (array′ ≡ array)
-  pub door-row-write-image : (size : ℕ) (array out numbers : List ℕ) (r : ℕ) (out′ numbers′ : List ℕ)
-      → WritesThrough size array out numbers r out′ numbers′ → ¬ (length numbers ≡ 2)
+  pub door-row-write-image : (part : ℕ) (array out numbers : List ℕ) (r : ℕ) (out′ numbers′ : List ℕ)
+      → WritesThrough part array out numbers r out′ numbers′ → ¬ (length numbers ≡ 2)
       → (r ≡ 0) × (numbers′ ≡ numbers) × (out′ ≡ out)
   pub list : (s : State) (es ls array row : List ℕ) (r : Listed) (array′ row′ : List ℕ) (k p : ℕ)
       → Lists s es ls array row r array′ row′ → captureOf s es ls array ≡ refused k p

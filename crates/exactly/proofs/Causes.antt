@@ -5,7 +5,6 @@ use mathlib.Core.List.{List, [], _∷_}
 use mathlib.Core.Logic.{_⊎_, inl, inr}
 use mathlib.Core.Path.{_≡_, refl, ap, sym, _∙_}
 use native.Mathlib.Omega.{arith}
-use lib.Dec.{leb}
 use lib.ListN.{length, take, drop}
 use lib.Seq.{take-at}
 use Rattle.ground.specs.Kind.{kindOf, known}
@@ -17,17 +16,17 @@ use Rattle.entries.specs.Entries.{Placed}
 use Rattle.transfers.specs.Transfers.{entriesOf}
 use Rattle.transfers.specs.Promises.{listedBy}
 use Rattle.power.specs.Power.{poweredUp}
-use Rattle.forms.specs.Reading.{Reading, taken, bad, readingOf}
+use Rattle.forms.specs.Reading.{Reading, taken, bad}
 use Rattle.intel.specs.Intel.{intel}
-use Rattle.image.specs.Promises.{largestSize, imageBy, imageOf, writeVerdict}
+use Rattle.image.specs.Promises.{imageOf, writeVerdict}
 use Rattle.reader.specs.Answers.{verdictOf}
 use Rattle.texts.specs.Laying.{Starts}
 use Rattle.texts.specs.Refusal.{refusalLine}
-use Rattle.tidying.specs.Shown.{shownBy, shownOf}
+use Rattle.tidying.specs.Shown.{shownBy, textOf, shownOf}
 use Rattle.telling.specs.Told.{told, fits, answerBy, leftOr}
 use Rattle.captures.specs.Once.{onceBy, captureVerdict}
 use Rattle.exactly.specs.Causes.{NoRefusalWithoutCause}
-use Rattle.exactly.proofs.ReadImage.{verdict-bad}
+use Rattle.exactly.proofs.ReadLines.{verdict-bad}
 use Rattle.exactly.proofs.RefusalLine.{one-line, no-line}
 
 -- A size that is refused.
@@ -64,14 +63,13 @@ shown-cause : (x : Reading) (k p : ℕ) → shownBy x ≡ refusalLine k p → x 
 shown-cause (taken array) k p e = absurd (no-line array k p e)
 shown-cause (bad j q) k p e = let t = one-line j q k p e in rw (t .0, t .1)
 
-tidy-cause : (size : ℕ) (text out : List ℕ) (r : ℕ) (out′ : List ℕ) (k p : ℕ)
-    → Starts (shownOf size text) out r out′ → take r out′ ≡ refusalLine k p
-    → imageBy (leb size largestSize) (readingOf intel size text) ≡ bad k p
+tidy-cause : (part : ℕ) (text out : List ℕ) (r : ℕ) (out′ : List ℕ) (k p : ℕ)
+    → Starts (shownOf part text) out r out′ → take r out′ ≡ refusalLine k p → textOf part text ≡ bad k p
 unfolding shownOf
-tidy-cause size text out r out′ k p x e =
-    let s = shownBy (imageBy (leb size largestSize) (readingOf intel size text)) in
+tidy-cause part text out r out′ k p x e =
+    let s = shownBy (textOf part text) in
     let t : take r out′ ≡ s = ap (take r) (x .shown) ∙ take-at s (drop r out) r (sym (x .count)) in
-    shown-cause (imageBy (leb size largestSize) (readingOf intel size text)) k p (sym t ∙ e)
+    shown-cause (textOf part text) k p (sym t ∙ e)
 
 -- The list refuses where its capture's verdict does.
 list-cause : (v : Verdict) (xs : List Placed) (k p : ℕ) → listedBy v xs ≡ refused k p → v ≡ refused k p
@@ -87,16 +85,16 @@ no-refusal-without-cause =
       list = λ s es ls array row r array′ row′ k p x e.
           list-cause (captureOf s es ls array) (entriesOf 0 es ls (record { state = s; array = array })) k p (sym (x .reply) ∙ e);
       size = λ part r k p x e. size-cause (known part) (kindOf part .size) k p (sizeMeant r) (x .said) e;
-      read-image = λ size text array r array′ k p x e.
-          verdict-bad (imageOf intel size text array) (length text) k p .0 (sym (x .reply) ∙ e);
-      write-image = λ size array out r out′ k p x e. sym (x .reply) ∙ e;
+      read-image = λ part text array r array′ k p x e.
+          verdict-bad (imageOf intel part text array) (length text) k p .0 (sym (x .reply) ∙ e);
+      write-image = λ part array out r out′ k p x e. sym (x .reply) ∙ e;
       tidy = tidy-cause;
       door-replay = λ part select stored es ls array row numbers r array′ row′ numbers′ k p x o h e.
           door-cause part select stored es ls array row k p
           (row-cause (fits numbers) (captureVerdict part select stored es ls array row) numbers numbers′ r k p (x .answer) o h (x .reply) e);
-      door-read-image = λ size text array numbers r array′ numbers′ k p x o h e.
-          verdict-bad (imageOf intel size text array) (length text) k p .0
-          (row-cause (fits numbers) (verdictOf (imageOf intel size text array) (length text)) numbers numbers′ r k p (x .answer) o h (x .reply) e);
-      door-write-image = λ size array out numbers r out′ numbers′ k p x o h e.
-          row-cause (fits numbers) (writeVerdict intel size array out) numbers numbers′ r k p (x .answer) o h (x .reply) e;
+      door-read-image = λ part text array numbers r array′ numbers′ k p x o h e.
+          verdict-bad (imageOf intel part text array) (length text) k p .0
+          (row-cause (fits numbers) (verdictOf (imageOf intel part text array) (length text)) numbers numbers′ r k p (x .answer) o h (x .reply) e);
+      door-write-image = λ part array out numbers r out′ numbers′ k p x o h e.
+          row-cause (fits numbers) (writeVerdict intel part array out) numbers numbers′ r k p (x .answer) o h (x .reply) e;
     }

@@ -1,6 +1,4 @@
 -- For each refusal number, exactly when it is the reply. It rests on the operations' contracts alone. No axiom is used.
-use mathlib.Core.Path.{refl}
-use Rattle.ground.specs.Kind.{kindOf}
 use Rattle.exactly.specs.Exactly.{Exactly}
 use Rattle.exactly.proofs.PowerUp.{power-up}
 use Rattle.exactly.proofs.Replay.{replay}
@@ -9,5 +7,4 @@ use Rattle.exactly.proofs.WriteImage.{write-image}
 
 -- The claim: the whole table.
 pub exactly : Exactly
-unfolding kindOf
-exactly = record { power-up = power-up; replay = replay; read-image = read-image; write-image = write-image; door-size = refl }
+exactly = record { power-up = power-up; replay = replay; read-image = read-image; write-image = write-image }

@@ -10,6 +10,7 @@ pub mod Records
 pub mod Cells
 pub mod Heard
 pub mod Walk
+pub mod ReadLines
 pub mod ReadImage
 pub mod Exactly
 pub mod RefusalLine

@@ -2,7 +2,7 @@
 use Prim.Native.Nat.{ℕ, _≤_, _<_}
 use mathlib.Core.Bool.{Bool, true, false}
 use mathlib.Core.Logic.{_↔_, Iff·trans}
-use mathlib.Core.Path.{_≡_, refl, ap, sym, _∙_}
+use mathlib.Core.Path.{_≡_, refl, ap, sym, subst, _∙_}
 use native.Mathlib.Omega.{arith}
 use lib.Dec.{leb}
 use Rattle.ground.specs.Kind.{kindOf, known}
@@ -12,10 +12,10 @@ use Rattle.ground.specs.declared.kinds.Size.{Size}
 use Rattle.ground.specs.declared.kinds.Size.the-variants.{Bytes, Unknown}
 use Rattle.ground.proofs.Verdicts.{apart}
 use Rattle.refusals.specs.Refusals.{storable, powerBy, powerOf}
-use Rattle.exactly.specs.Words.{KnownPart, LatchBit}
+use Rattle.exactly.specs.Words.{KnownPart, SizeOf, LatchBit}
 use Rattle.exactly.specs.PowerUp.{PowerUp}
 use Rattle.exactly.proofs.Decides.{holds, fails, decides-le}
-use Rattle.exactly.proofs.Words.{known-size, decides-part, decides-stored}
+use Rattle.exactly.proofs.Words.{known-size, size-known, size-is, decides-part, decides-stored}
 use Rattle.exactly.proofs.Steps.{step, Above, above-accepted, above-step, most-accepted, most-step, stop, stopped, past, passed, through, says-refused, says-accepted}
 
 -- The table is three tests, one after the other.
@@ -114,26 +114,26 @@ size-none part r x = (forth r (x .said), back r (x .said))
         absurd (apart 1 0 n (sym u))
     back Unknown s h = refl
 
-size-some : (part n : ℕ) (r : Size) → SizesPart part r → (r ≡ Bytes n) ↔ ((n ≡ 4096) × KnownPart part)
+size-some : (part n : ℕ) (r : Size) → SizesPart part r → (r ≡ Bytes n) ↔ SizeOf part n
 unfolding sizeMeant
-size-some part n r x = (λ e. forth r (x .said) e (known part) refl, λ h. back r (x .said) (h .0) (h .1))
+size-some part n r x = (λ e. forth r (x .said) e (known part) refl, λ h. back r (x .said) (size-is part n h) (size-known part n h))
   where
     forth : (q : Size) → sizeMeant q ≡ sizeBy (known part) (kindOf part .size) → q ≡ Bytes n → (b : Bool) → known part ≡ b
-        → (n ≡ 4096) × KnownPart part
+        → SizeOf part n
     forth q s e true k =
         let p = decides-part part .yes k in
         let u : accepted n ≡ accepted (kindOf part .size) = ap sizeMeant (sym e) ∙ s ∙ rw k in
         let v : n ≡ kindOf part .size = cc in
-        (v ∙ known-size part p, p)
+        subst (SizeOf part) (sym v) (known-size part p)
     forth q s e false k =
         let u : accepted n ≡ refused 1 0 = ap sizeMeant (sym e) ∙ s ∙ rw k in
         absurd (apart 1 0 n (sym u))
 
-    back : (q : Size) → sizeMeant q ≡ sizeBy (known part) (kindOf part .size) → n ≡ 4096 → KnownPart part → q ≡ Bytes n
+    back : (q : Size) → sizeMeant q ≡ sizeBy (known part) (kindOf part .size) → n ≡ kindOf part .size → KnownPart part → q ≡ Bytes n
     back (Bytes m) s h k =
         let u : accepted m ≡ accepted (kindOf part .size) = s ∙ rw (holds (decides-part part) k) in
         let v : m ≡ kindOf part .size = cc in
-        ap Bytes (v ∙ known-size part k ∙ sym h)
+        ap Bytes (v ∙ sym h)
     back Unknown s h k =
         let u : refused 1 0 ≡ accepted (kindOf part .size) = s ∙ rw (holds (decides-part part) k) in
         absurd (apart 1 0 (kindOf part .size) u)

@@ -1,396 +1,206 @@
--- Refusals 5 and 11 to 18 of reading an image, exactly when. Assumes nothing.
+-- Refusals 1, 5 and 11 to 18 of reading an image, exactly when. Assumes nothing.
 use Prim.Native.Nat.{ℕ, _+_, _≤_, _<_}
 use mathlib.Core.Bool.{Bool, true, false}
-use mathlib.Core.List.{List, [], _∷_}
+use mathlib.Core.List.{List}
 use mathlib.Core.Logic.{_↔_, _⊎_, inl, inr, Iff·trans}
 use mathlib.Core.Path.{_≡_, refl, ap, sym, _∙_}
 use native.Mathlib.Omega.{arith}
-use lib.Dec.{eqb, leb}
-use lib.ListN.{length, drop, length-drop, replicate}
-use borrow.Author.Tests.{leb-true, leb-false}
+use lib.Dec.{leb}
+use lib.ListN.{length}
+use Rattle.ground.specs.Kind.{kindOf, known}
 use Rattle.ground.specs.Verdict.{Verdict, accepted, refused}
-use Rattle.ground.proofs.Verdicts.{apart}
-use Rattle.lines.specs.Lines.{linesOf}
-use Rattle.lines.proofs.LineLaws.{lines-none, lines-nil}
-use Rattle.cells.specs.Cells.{notGiven}
-use Rattle.forms.specs.Reading.{Heard, gives, ends, faulty, saysOf, Reading, taken, bad, lineBy, linesRead, textBy, readingOf}
+use Rattle.forms.specs.Reading.{Reading, bad, textBy, readingOf}
 use Rattle.intel.specs.Intel.{intel}
 use Rattle.reader.specs.Answers.{verdictOf}
 use Rattle.image.specs.Promises.{sized, imageBy, imageOf}
-use Rattle.exactly.specs.Lines.{LineAt, charactersOf}
-use Rattle.exactly.specs.Records.{WellFormed, SumsRight, TypeTaken, Beyond}
-use Rattle.exactly.specs.Faults.{Twice, GivesData, AllGive, FirstAt, EndAt}
-use Rattle.exactly.specs.ReadImage.{Sized, TextFits, ReadImage}
+use Rattle.exactly.specs.Words.{KnownPart, ByPart, SizeOf}
+use Rattle.exactly.specs.Records.{WellFormed, SumsRight, TypeTaken, Gives}
+use Rattle.exactly.specs.Faults.{FirstAt, EndAt}
+use Rattle.exactly.specs.ReadImage.{TextFits, ReadImage}
 use Rattle.exactly.proofs.Decides.{holds, fails, decides-le}
+use Rattle.exactly.proofs.Words.{one-kind, size-known, size-is, decides-part, decides-size}
 use Rattle.exactly.proofs.Steps.{step, Above, above-step, stop, stopped, past, passed, through, says-refused, says-accepted}
-use Rattle.exactly.proofs.Lines.{three-ways, one-end}
-use Rattle.exactly.proofs.Cells.{Filled}
-use Rattle.exactly.proofs.Heard.{numbers, hear-twelve, hear-thirteen, hear-fourteen, hear-fifteen, hear-sixteen, hear-data, hear-end}
-use Rattle.exactly.proofs.Walk.{Walked, out, halt, walked}
-use Rattle.exactly.proofs.WriteImage.{decides-sized, unsized-4096}
+use Rattle.exactly.proofs.ReadLines.{lines, twelve, thirteen, fourteen, fifteen, sixteen, seventeen, eighteen, whole-text, line-numbers, verdict-bad}
 
--- Two readings that differ.
-other-bad : (k p j q : ℕ) → bad k p ≡ bad j q → (k ≡ j) × (p ≡ q)
-other-bad k p j q e = (cc, cc)
+steps : (a b c : Bool) (r : Reading) (n : ℕ)
+    → verdictOf (imageBy a b (textBy c r)) n ≡ step a 1 (step b 5 (step c 11 (verdictOf r n)))
+steps false b c r n = refl
+steps true false c r n = refl
+steps true true false r n = refl
+steps true true true r n = refl
 
-pub not-taken : (k p : ℕ) (array : List ℕ) → bad k p ≡ taken array → ⊥
-not-taken k p array e = let z : _≡_ {A = ℕ} 0 1 = cc in omega arith
+-- A place past an array's end, by the part.
+past-end : (part size a : ℕ) → SizeOf part size → size ≤ a → ByPart part (0x0FFF < a) (0x3FFF < a)
+past-end part size a (inl x) h = let e = x .1 in inl (x .0, omega arith)
+past-end part size a (inr x) h = let e = x .1 in inr (x .0, omega arith)
 
--- What the end line comes to, by what follows it.
-after-end : (p e : ℕ) (cells : List ℕ) (ls : List (List ℕ)) (rest : Reading)
-    → ((ls ≡ []) × ((array : List ℕ) × (lineBy ends p (e + 1) cells ls rest ≡ taken array)))
-    ⊎ ((ls ≡ [] → ⊥) × (lineBy ends p (e + 1) cells ls rest ≡ bad 18 (e + 1)))
-after-end p e cells [] rest = inl (refl, (_, refl))
-after-end p e cells (l ∷ ls) rest = inr (λ z. let y : _≡_ {A = ℕ} 0 1 = cc in omega arith, refl)
+end-past : (part size a : ℕ) → SizeOf part size → ByPart part (0x0FFF < a) (0x3FFF < a) → size ≤ a
+end-past part size a (inl x) (inl y) = let e = x .1 in let h = y .1 in omega arith
+end-past part size a (inl x) (inr y) = absurd (one-kind part (x .0) (y .0))
+end-past part size a (inr x) (inl y) = absurd (one-kind part (y .0) (x .0))
+end-past part size a (inr x) (inr y) = let e = x .1 in let h = y .1 in omega arith
 
-module _ (size : ℕ) (text : List ℕ) where
-  abbrev lines : Reading
-  lines = linesRead intel (length text) 0 (replicate size notGiven) (linesOf text)
-
-  nothing-after : (e : ℕ) → linesOf (drop (e + 1) text) ≡ [] → length text ≤ e + 1
-  nothing-after e h = let m = length-drop (e + 1) text in omega (arith, lines-nil (drop (e + 1) text) h)
-
-  something-after : (e : ℕ) → (linesOf (drop (e + 1) text) ≡ [] → ⊥) → e + 1 < length text
-  something-after e h = go (leb (length text) (e + 1)) refl
-    where
-      go : (b : Bool) → leb (length text) (e + 1) ≡ b → e + 1 < length text
-      go true k =
-          let m = length-drop (e + 1) text in
-          let z : length (drop (e + 1) text) ≡ 0 = omega (arith, leb-true (length text) (e + 1) k) in
-          absurd (h (lines-none (drop (e + 1) text) z))
-      go false k = leb-false (length text) (e + 1) k
-
-  -- The line that the reader stopped at, what it heard there, and what it said then.
-  pub record Halted (p e : ℕ) (h : Heard) : Type 0 where
-    pub line : LineAt text p e
-    pub before : AllGive size text p
-    pub cells : List ℕ
-    pub filled : Filled size text p cells
-    pub heard : saysOf intel (eqb p 0) cells (charactersOf text p e) ≡ h
-    pub rest : Reading
-    pub said : lines ≡ lineBy h p (e + 1) cells (linesOf (drop (e + 1) text)) rest
-
-  -- What the reading comes to.
-  data Came (r : Reading) : Type 0 where
-    none : r ≡ bad 17 (length text) → AllGive size text (length text) → Came r
-    fault : (k p e : ℕ) → r ≡ bad k p → Halted p e (faulty k) → Came r
-    after : (q e : ℕ) → r ≡ bad 18 (e + 1) → Halted q e ends → e + 1 < length text → Came r
-    whole : (q e : ℕ) (array : List ℕ) → r ≡ taken array → Halted q e ends → length text ≤ e + 1 → Came r
-
-  ended : (q e : ℕ) → (t : Halted q e ends)
-      → ((linesOf (drop (e + 1) text) ≡ []) × ((array : List ℕ) × (lineBy ends q (e + 1) (t .cells) (linesOf (drop (e + 1) text)) (t .rest) ≡ taken array)))
-      ⊎ ((linesOf (drop (e + 1) text) ≡ [] → ⊥) × (lineBy ends q (e + 1) (t .cells) (linesOf (drop (e + 1) text)) (t .rest) ≡ bad 18 (e + 1)))
-      → Came lines
-  ended q e t (inl y) = whole q e (y .1 .0) (t .said ∙ y .1 .1) t (nothing-after e (y .0))
-  ended q e t (inr y) = after q e (t .said ∙ y .1) t (something-after e (y .0))
-
-  came : Came lines
-  came = go (walked size text)
-    where
-      go : Walked size text lines → Came lines
-      go (out h a) = none h a
-      go (halt q e cells gives rest x a f s n h) = absurd (n refl)
-      go (halt q e cells ends rest x a f s n h) =
-          ended q e (record { line = x; before = a; cells = cells; filled = f; heard = s; rest = rest; said = h })
-          (after-end q e cells (linesOf (drop (e + 1) text)) rest)
-      go (halt q e cells (faulty j) rest x a f s n h) =
-          fault j q e h (record { line = x; before = a; cells = cells; filled = f; heard = s; rest = rest; said = h })
-
-  -- The reader stops at a line that is no faultless line of data, after such lines only.
-  meets : (p e : ℕ) → LineAt text p e → AllGive size text p → (GivesData size text p (charactersOf text p e) → ⊥)
-      → (h : Heard) × Halted p e h
-  meets p e x a clash = go (walked size text)
-    where
-      at : (q f : ℕ) (cells : List ℕ) (h : Heard) (rest : Reading) → LineAt text q f → AllGive size text q → Filled size text q cells
-          → saysOf intel (eqb q 0) cells (charactersOf text q f) ≡ h → (h ≡ gives → ⊥)
-          → lines ≡ lineBy h q (f + 1) cells (linesOf (drop (f + 1) text)) rest → (p < q) ⊎ ((p ≡ q) ⊎ (q < p))
-          → (h : Heard) × Halted p e h
-      at q f cells h rest y b g s n r (inl k) = absurd (clash (b p e x k))
-      at q f cells h rest y b g s n r (inr (inl k)) =
-          let z : LineAt text p f = rw (sym k) at y in
-          let m : e ≡ f = one-end text p e f x z in
-          (h, rw (k, m) (record { line = y; before = b; cells = cells; filled = g; heard = s; rest = rest; said = r }))
-      at q f cells h rest y b g s n r (inr (inr k)) =
-          absurd (n (sym s ∙ hear-data size text q cells (charactersOf text q f) (eqb q 0) g .1 (a q f y k)))
-
-      go : Walked size text lines → (h : Heard) × Halted p e h
-      go (out h b) = absurd (clash (b p e x (x .inside)))
-      go (halt q f cells h rest y b g s n r) = at q f cells h rest y b g s n r (three-ways p q)
-
-  -- A faulty line.
-  fault-forth : (k p : ℕ) → k < 17 → lines ≡ bad k p → (e : ℕ) × Halted p e (faulty k)
-  fault-forth k p m g = go came
-    where
-      go : Came lines → (e : ℕ) × Halted p e (faulty k)
-      go (none h a) = let t = other-bad k p 17 (length text) (sym g ∙ h) in absurd (omega (arith, t .0))
-      go (fault j q e h t) =
-          let u = other-bad k p j q (sym g ∙ h) in
-          (e, rw (u .0, u .1) t)
-      go (after q e h t y) = let u = other-bad k p 18 (e + 1) (sym g ∙ h) in absurd (omega (arith, u .0))
-      go (whole q e array h t y) = absurd (not-taken k p array (sym g ∙ h))
-
-  fault-back : (k p e : ℕ) → LineAt text p e → AllGive size text p → (GivesData size text p (charactersOf text p e) → ⊥)
-      → ((cells : List ℕ) → Filled size text p cells → saysOf intel (eqb p 0) cells (charactersOf text p e) ≡ faulty k)
-      → lines ≡ bad k p
-  fault-back k p e x a clash s =
-      let t = meets p e x a clash in
-      let h = sym (t .1 .heard) ∙ s (t .1 .cells) (t .1 .filled) in
-      t .1 .said ∙ rw h
-
-  -- 12 to 16: from what is said of a line to what is said of the text.
-  module _ (k : ℕ) (m : k < 17) (p : ℕ) (Such : List ℕ → Type 0)
-      (clash : (l : List ℕ) → Such l → GivesData size text p l → ⊥)
-      (hear : (cells l : List ℕ) → Filled size text p cells → (saysOf intel (eqb p 0) cells l ≡ faulty k) ↔ Such l) where
-    line-fault : (lines ≡ bad k p) ↔ ((e : ℕ) × FirstAt size text p e Such)
-    line-fault = (
-      λ g.
-          let t = fault-forth k p m g in
-          let u = t .1 in
-          (t .0, record { line = u .line; before = u .before; such = hear (u .cells) (charactersOf text p (t .0)) (u .filled) .0 (u .heard) }),
-      λ h.
-          let u = h .1 in
-          fault-back k p (h .0) (u .line) (u .before) (clash (charactersOf text p (h .0)) (u .such))
-          (λ cells f. hear cells (charactersOf text p (h .0)) f .1 (u .such)),
-    )
-
-  twelve : (p : ℕ) → (lines ≡ bad 12 p) ↔ ((e : ℕ) × FirstAt size text p e (λ l. ¬ WellFormed l))
-  twelve p = line-fault 12 (omega arith) p (λ l. ¬ WellFormed l) (λ l n g. n (g .formed)) (λ cells l f. hear-twelve size text p cells l (eqb p 0) f)
-
-  thirteen : (p : ℕ) → (lines ≡ bad 13 p) ↔ ((e : ℕ) × FirstAt size text p e (λ l. WellFormed l × ¬ SumsRight l))
-  thirteen p =
-      line-fault 13 (omega arith) p (λ l. WellFormed l × ¬ SumsRight l) (λ l n g. n .1 (g .summed))
-      (λ cells l f. hear-thirteen size text p cells l (eqb p 0) f)
-
-  fourteen : (p : ℕ) → (lines ≡ bad 14 p) ↔ ((e : ℕ) × FirstAt size text p e (λ l. WellFormed l × SumsRight l × ¬ TypeTaken l))
-  fourteen p =
-      line-fault 14 (omega arith) p (λ l. WellFormed l × SumsRight l × ¬ TypeTaken l) (λ l n g. n .2 (inl (g .zero)))
-      (λ cells l f. hear-fourteen size text p cells l (eqb p 0) f)
-
-  fifteen : (p : ℕ) → (lines ≡ bad 15 p)
-      ↔ ((e : ℕ) × FirstAt size text p e (λ l. WellFormed l × SumsRight l × TypeTaken l × Beyond size l))
-  fifteen p =
-      line-fault 15 (omega arith) p (λ l. WellFormed l × SumsRight l × TypeTaken l × Beyond size l) (λ l n g. g .within (n .3))
-      (λ cells l f. hear-fifteen size text p cells l (eqb p 0) f)
-
-  sixteen : (p : ℕ) → (lines ≡ bad 16 p)
-      ↔ ((e : ℕ)
-      × FirstAt size text p e (λ l. WellFormed l × SumsRight l × TypeTaken l × (¬ Beyond size l) × Twice text p l))
-  sixteen p =
-      line-fault 16 (omega arith) p (λ l. WellFormed l × SumsRight l × TypeTaken l × (¬ Beyond size l) × Twice text p l)
-      (λ l n g. g .once (n .4)) (λ cells l f. hear-sixteen size text p cells l (eqb p 0) f)
-
-  -- 17: no line ends the image.
-  faulty-few : (p e k : ℕ) → Halted p e (faulty k) → k ≤ 16
-  faulty-few p e k t = numbers size text p (t .cells) (charactersOf text p e) (eqb p 0) (t .filled) k (t .heard) .1
-
-  seventeen : (p : ℕ) → (lines ≡ bad 17 p) ↔ ((p ≡ length text) × AllGive size text (length text))
-  seventeen p = (λ g. forth g came, λ h. back (h .0) (h .1) (walked size text))
-    where
-      forth : lines ≡ bad 17 p → Came lines → (p ≡ length text) × AllGive size text (length text)
-      forth g (none h a) = (other-bad 17 p 17 (length text) (sym g ∙ h) .1, a)
-      forth g (fault j q e h t) = let u = other-bad 17 p j q (sym g ∙ h) in absurd (omega (arith, u .0, faulty-few q e j t))
-      forth g (after q e h t y) = let u = other-bad 17 p 18 (e + 1) (sym g ∙ h) in absurd (omega (arith, u .0))
-      forth g (whole q e array h t y) = absurd (not-taken 17 p array (sym g ∙ h))
-
-      back : p ≡ length text → AllGive size text (length text) → Walked size text lines → lines ≡ bad 17 p
-      back z a (out h b) = h ∙ ap (bad 17) (sym z)
-      back z a (halt q f cells h rest y b g s n r) =
-          absurd (n (sym s ∙ hear-data size text q cells (charactersOf text q f) (eqb q 0) g .1 (a q f y (y .inside))))
-
-  -- 18 and acceptance: the end line.
-  end-at : (q e : ℕ) → Halted q e ends → EndAt size text q e
-  end-at q e t =
-      record {
-        line = t .line;
-        before = t .before;
-        such = hear-end size text q (t .cells) (charactersOf text q e) (eqb q 0) (t .filled) .0 (t .heard);
-      }
-
-  at-end : (q e : ℕ) → EndAt size text q e → Halted q e ends
-  at-end q e x =
-      let t = meets q e (x .line) (x .before) (λ g. omega (arith, g .zero, x .such .2 .0)) in
-      let u = t .1 in
-      let h = sym (u .heard) ∙ hear-end size text q (u .cells) (charactersOf text q e) (eqb q 0) (u .filled) .1 (x .such) in
-      rw (sym h) u
-
-  eighteen : (p : ℕ) → (lines ≡ bad 18 p) ↔ ((q e : ℕ) × EndAt size text q e × (p ≡ e + 1) × (p < length text))
-  eighteen p = (λ g. forth g came, λ h. back (h .0) (h .1) (h .2) (h .3) (h .4))
-    where
-      forth : lines ≡ bad 18 p → Came lines → (q e : ℕ) × EndAt size text q e × (p ≡ e + 1) × (p < length text)
-      forth g (none h a) = let u = other-bad 18 p 17 (length text) (sym g ∙ h) in absurd (omega (arith, u .0))
-      forth g (fault j q e h t) = let u = other-bad 18 p j q (sym g ∙ h) in absurd (omega (arith, u .0, faulty-few q e j t))
-      forth g (after q e h t y) =
-          let u = other-bad 18 p 18 (e + 1) (sym g ∙ h) .1 in
-          (q, e, end-at q e t, u, omega arith)
-      forth g (whole q e array h t y) = absurd (not-taken 18 p array (sym g ∙ h))
-
-      back : (q e : ℕ) → EndAt size text q e → p ≡ e + 1 → p < length text → lines ≡ bad 18 p
-      back q e x z k = let t = at-end q e x in go t (after-end q e (t .cells) (linesOf (drop (e + 1) text)) (t .rest))
-        where
-          go : (t : Halted q e ends)
-              → ((linesOf (drop (e + 1) text) ≡ []) × ((array : List ℕ) × (lineBy ends q (e + 1) (t .cells) (linesOf (drop (e + 1) text)) (t .rest) ≡ taken array)))
-              ⊎ ((linesOf (drop (e + 1) text) ≡ [] → ⊥) × (lineBy ends q (e + 1) (t .cells) (linesOf (drop (e + 1) text)) (t .rest) ≡ bad 18 (e + 1)))
-              → lines ≡ bad 18 p
-          go t (inl y) = let n = nothing-after e (y .0) in absurd (omega arith)
-          go t (inr y) = t .said ∙ y .1 ∙ ap (bad 18) (sym z)
-
-  whole-text : (n : ℕ) → (verdictOf lines (length text) ≡ accepted n)
-      ↔ ((q e : ℕ) × EndAt size text q e × (n ≡ length text) × (length text ≤ e + 1))
-  whole-text n = (λ g. forth g came, λ h. back (h .0) (h .1) (h .2) (h .3) (h .4))
-    where
-      forth : verdictOf lines (length text) ≡ accepted n → Came lines
-          → (q e : ℕ) × EndAt size text q e × (n ≡ length text) × (length text ≤ e + 1)
-      forth g (none h a) =
-          let v : refused 17 (length text) ≡ accepted n = sym (ap (λ (x : Reading). verdictOf x (length text)) h) ∙ g in
-          absurd (apart 17 (length text) n v)
-      forth g (fault j q e h t) =
-          let v : refused j q ≡ accepted n = sym (ap (λ (x : Reading). verdictOf x (length text)) h) ∙ g in
-          absurd (apart j q n v)
-      forth g (after q e h t y) =
-          let v : refused 18 (e + 1) ≡ accepted n = sym (ap (λ (x : Reading). verdictOf x (length text)) h) ∙ g in
-          absurd (apart 18 (e + 1) n v)
-      forth g (whole q e array h t y) =
-          let v : accepted (length text) ≡ accepted n = sym (ap (λ (x : Reading). verdictOf x (length text)) h) ∙ g in
-          (q, e, end-at q e t, cc, y)
-
-      back : (q e : ℕ) → EndAt size text q e → n ≡ length text → length text ≤ e + 1 → verdictOf lines (length text) ≡ accepted n
-      back q e x z k = let t = at-end q e x in go t (after-end q e (t .cells) (linesOf (drop (e + 1) text)) (t .rest))
-        where
-          go : (t : Halted q e ends)
-              → ((linesOf (drop (e + 1) text) ≡ []) × ((array : List ℕ) × (lineBy ends q (e + 1) (t .cells) (linesOf (drop (e + 1) text)) (t .rest) ≡ taken array)))
-              ⊎ ((linesOf (drop (e + 1) text) ≡ [] → ⊥) × (lineBy ends q (e + 1) (t .cells) (linesOf (drop (e + 1) text)) (t .rest) ≡ bad 18 (e + 1)))
-              → verdictOf lines (length text) ≡ accepted n
-          go t (inl y) = ap (λ (x : Reading). verdictOf x (length text)) (t .said ∙ y .1 .1) ∙ ap accepted (sym z)
-          go t (inr y) = let m = something-after e (y .0) in absurd (omega arith)
-
-  -- Numbers of the lines.
-  line-numbers : (k p : ℕ) → lines ≡ bad k p → (12 ≤ k) × (k ≤ 18)
-  line-numbers k p g = go came
-    where
-      go : Came lines → (12 ≤ k) × (k ≤ 18)
-      go (none h a) = let u = other-bad k p 17 (length text) (sym g ∙ h) .0 in (omega arith, omega arith)
-      go (fault j q e h t) =
-          let u = other-bad k p j q (sym g ∙ h) .0 in
-          let v = numbers size text q (t .cells) (charactersOf text q e) (eqb q 0) (t .filled) j (t .heard) in
-          (omega (arith, v .0), omega (arith, v .1))
-      go (after q e h t y) = let u = other-bad k p 18 (e + 1) (sym g ∙ h) .0 in (omega arith, omega arith)
-      go (whole q e array h t y) = absurd (not-taken k p array (sym g ∙ h))
-
--- A reading's verdict and the reading.
-pub verdict-bad : (r : Reading) (n k p : ℕ) → (verdictOf r n ≡ refused k p) ↔ (r ≡ bad k p)
-verdict-bad (taken array) n k p = (λ e. absurd (apart k p n (sym e)), λ e. absurd (not-taken k p array (sym e)))
-verdict-bad (bad j q) n k p = (λ e. cc, λ e. cc)
-
-steps : (a b : Bool) (r : Reading) (n : ℕ) → verdictOf (imageBy a (textBy b r)) n ≡ step a 5 (step b 11 (verdictOf r n))
-steps false b r n = refl
-steps true false r n = refl
-steps true true r n = refl
-
-module _ (size : ℕ) (text array : List ℕ) where
+module _ (part : ℕ) (text array : List ℕ) where
   abbrev verdict : Verdict
-  verdict = verdictOf (imageOf intel size text array) (length text)
+  verdict = verdictOf (imageOf intel part text array) (length text)
+
+  -- The lines, judged by the part's size and by the array's length.
+  abbrev third : Verdict
+  third = verdictOf (lines (kindOf part .size) text) (length text)
 
   abbrev second : Verdict
-  second = step (leb (length text) 65536) 11 (verdictOf (lines size text) (length text))
+  second = step (leb (length text) 65536) 11 third
 
-  by-steps : verdict ≡ step (sized size (length array)) 5 second
+  abbrev first : Verdict
+  first = step (sized part (length array)) 5 second
+
+  by-steps : verdict ≡ step (known part) 1 first
   unfolding imageOf readingOf
-  by-steps = steps (sized size (length array)) (leb (length text) 65536) (lines size text) (length text)
+  by-steps = steps (known part) (sized part (length array)) (leb (length text) 65536) (lines (kindOf part .size) text) (length text)
 
-  above-eleven : Above 11 (verdictOf (lines size text) (length text))
-  above-eleven k p e = line-numbers size text k p (verdict-bad (lines size text) (length text) k p .0 e) .0
+  above-eleven : Above 11 third
+  above-eleven k p e =
+      line-numbers (kindOf part .size) text k p (verdict-bad (lines (kindOf part .size) text) (length text) k p .0 e) .0
 
   above-five : Above 5 second
-  above-five =
-      above-step (leb (length text) 65536) 5 11 (verdictOf (lines size text) (length text)) (omega arith)
-      (λ j q e. let h = above-eleven j q e in omega arith)
+  above-five = above-step (leb (length text) 65536) 5 11 third (omega arith) (λ j q e. let h = above-eleven j q e in omega arith)
 
-  five : (p : ℕ) → (verdict ≡ refused 5 p) ↔ ((p ≡ 0) × ¬ Sized size array)
-  five p = (
-    λ e. let t = stop (sized size (length array)) 5 p second above-five (sym by-steps ∙ e) in (t .1, decides-sized size array .no (t .0)),
-    λ h. by-steps ∙ stopped (sized size (length array)) 5 p second (fails (decides-sized size array) (h .1)) (h .0),
+  above-one : Above 1 first
+  above-one = above-step (sized part (length array)) 1 5 second (omega arith) (λ j q e. let h = above-five j q e in omega arith)
+
+  same-lines : SizeOf part (length array) → third ≡ verdictOf (lines (length array) text) (length text)
+  same-lines s = ap (λ (n : ℕ). verdictOf (lines n text) (length text)) (sym (size-is part (length array) s))
+
+  -- What holds where a later number is the reply, and what the verdict is where the tests pass.
+  past-size : (k p : ℕ) → 5 < k → verdict ≡ refused k p → SizeOf part (length array) × (second ≡ refused k p)
+  past-size k p h e =
+      let t = past (known part) 1 k p first (omega arith) (sym by-steps ∙ e) in
+      let u = past (sized part (length array)) 5 k p second h (t .1) in
+      (decides-size part (length array) (decides-part part .yes (t .0)) .yes (u .0), u .1)
+
+  to-size : KnownPart part → verdict ≡ first
+  to-size k = by-steps ∙ passed (known part) 1 first (holds (decides-part part) k)
+
+  to-text : SizeOf part (length array) → verdict ≡ second
+  to-text s =
+      let k = size-known part (length array) s in
+      to-size k ∙ passed (sized part (length array)) 5 second (holds (decides-size part (length array) k) s)
+
+  one : (p : ℕ) → (verdict ≡ refused 1 p) ↔ ((p ≡ 0) × ¬ KnownPart part)
+  one p = (
+    λ e. let t = stop (known part) 1 p first above-one (sym by-steps ∙ e) in (t .1, decides-part part .no (t .0)),
+    λ h. by-steps ∙ stopped (known part) 1 p first (fails (decides-part part) (h .1)) (h .0),
   )
 
-  eleven : (p : ℕ) → (verdict ≡ refused 11 p) ↔ ((p ≡ 0) × Sized size array × (65536 < length text))
+  five : (p : ℕ) → (verdict ≡ refused 5 p) ↔ ((p ≡ 0) × KnownPart part × ¬ SizeOf part (length array))
+  five p = (
+    λ e.
+        let t = past (known part) 1 5 p first (omega arith) (sym by-steps ∙ e) in
+        let k = decides-part part .yes (t .0) in
+        let u = stop (sized part (length array)) 5 p second above-five (t .1) in
+        (u .1, k, decides-size part (length array) k .no (u .0)),
+    λ h.
+        to-size (h .1)
+        ∙ stopped (sized part (length array)) 5 p second (fails (decides-size part (length array) (h .1)) (h .2)) (h .0),
+  )
+
+  eleven : (p : ℕ) → (verdict ≡ refused 11 p) ↔ ((p ≡ 0) × SizeOf part (length array) × (65536 < length text))
   eleven p = (
     λ e.
-        let t = past (sized size (length array)) 5 11 p second (omega arith) (sym by-steps ∙ e) in
-        let u = stop (leb (length text) 65536) 11 p (verdictOf (lines size text) (length text)) above-eleven (t .1) in
-        (u .1, decides-sized size array .yes (t .0), decides-le (length text) 65536 .no (u .0)),
-    λ h.
-        by-steps
-        ∙ passed (sized size (length array)) 5 second (holds (decides-sized size array) (h .1))
-        ∙ stopped (leb (length text) 65536) 11 p (verdictOf (lines size text) (length text)) (fails (decides-le (length text) 65536) (h .2)) (h .0),
+        let t = past-size 11 p (omega arith) e in
+        let u = stop (leb (length text) 65536) 11 p third above-eleven (t .1) in
+        (u .1, t .0, decides-le (length text) 65536 .no (u .0)),
+    λ h. to-text (h .1) ∙ stopped (leb (length text) 65536) 11 p third (fails (decides-le (length text) 65536) (h .2)) (h .0),
   )
 
   -- What the lines decide.
-  to-lines : TextFits size text array → verdict ≡ verdictOf (lines size text) (length text)
+  to-lines : TextFits part text array → verdict ≡ verdictOf (lines (length array) text) (length text)
   to-lines f =
-      by-steps
-      ∙ passed (sized size (length array)) 5 second (holds (decides-sized size array) (f .sized))
-      ∙ passed (leb (length text) 65536) 11 (verdictOf (lines size text) (length text)) (holds (decides-le (length text) 65536) (f .short))
+      to-text (f .sized)
+      ∙ passed (leb (length text) 65536) 11 third (holds (decides-le (length text) 65536) (f .short))
+      ∙ same-lines (f .sized)
 
-  of-lines : (k p : ℕ) → 11 < k → verdict ≡ refused k p → TextFits size text array × (lines size text ≡ bad k p)
+  of-lines : (k p : ℕ) → 11 < k → verdict ≡ refused k p → TextFits part text array × (lines (length array) text ≡ bad k p)
   of-lines k p m e =
-      let t = past (sized size (length array)) 5 k p second (omega arith) (sym by-steps ∙ e) in
-      let u = past (leb (length text) 65536) 11 k p (verdictOf (lines size text) (length text)) m (t .1) in (
-        record { sized = decides-sized size array .yes (t .0); short = decides-le (length text) 65536 .yes (u .0) },
-        verdict-bad (lines size text) (length text) k p .0 (u .1),
+      let t = past-size k p (omega arith) e in
+      let u = past (leb (length text) 65536) 11 k p third m (t .1) in (
+        record { sized = t .0; short = decides-le (length text) 65536 .yes (u .0) },
+        verdict-bad (lines (length array) text) (length text) k p .0 (sym (same-lines (t .0)) ∙ u .1),
       )
 
-  by-lines : (k p : ℕ) {A : Type 0} → 11 < k → (lines size text ≡ bad k p) ↔ A → (verdict ≡ refused k p) ↔ (TextFits size text array × A)
+  by-lines : (k p : ℕ) {A : Type 0} → 11 < k → (lines (length array) text ≡ bad k p) ↔ A → (verdict ≡ refused k p) ↔ (TextFits part text array × A)
   by-lines k p m h = (
     λ e. let t = of-lines k p m e in (t .0, h .0 (t .1)),
-    λ x. to-lines (x .0) ∙ verdict-bad (lines size text) (length text) k p .1 (h .1 (x .1)),
+    λ x. to-lines (x .0) ∙ verdict-bad (lines (length array) text) (length text) k p .1 (h .1 (x .1)),
+  )
+
+  -- 15 in the paper's numbers.
+  abbrev Past : List ℕ → Type 0
+  Past l = WellFormed l × SumsRight l × TypeTaken l × ((a : ℕ) × Gives l a × ByPart part (0x0FFF < a) (0x3FFF < a))
+
+  beyond-part : (p : ℕ) → (verdict ≡ refused 15 p) ↔ (TextFits part text array × ((e : ℕ) × FirstAt (length array) text p e Past))
+  beyond-part p = (
+    λ g.
+        let t = by-lines 15 p (omega arith) (fifteen (length array) text p) .0 g in
+        let u = t .1 .1 in
+        let s = u .such in
+        let b = s .3 in
+        let q = past-end part (length array) (b .0) (t .0 .sized) (b .2) in
+        (t .0, (t .1 .0, record { line = u .line; before = u .before; such = (s .0, s .1, s .2, (b .0, b .1, q)) })),
+    λ h.
+        let u = h .1 .1 in
+        let s = u .such in
+        let b = s .3 in
+        let q = end-past part (length array) (b .0) (h .0 .sized) (b .2) in
+        by-lines 15 p (omega arith) (fifteen (length array) text p) .1
+        (h .0, (h .1 .0, record { line = u .line; before = u .before; such = (s .0, s .1, s .2, (b .0, b .1, q)) })),
   )
 
   taken-text : (n : ℕ) → (verdict ≡ accepted n)
-      ↔ (TextFits size text array × ((q e : ℕ) × EndAt size text q e × (n ≡ length text) × (length text ≤ e + 1)))
+      ↔ (TextFits part text array
+      × ((q e : ℕ) × EndAt (length array) text q e × (n ≡ length text) × (length text ≤ e + 1)))
   taken-text n = (
     λ g.
-        let t = through (sized size (length array)) 5 n second (sym by-steps ∙ g) in
-        let u = through (leb (length text) 65536) 11 n (verdictOf (lines size text) (length text)) (t .1) in
-        let x = whole-text size text n .0 (u .1) in (
-          record { sized = decides-sized size array .yes (t .0); short = decides-le (length text) 65536 .yes (u .0) },
-          x,
-        ),
-    λ h. to-lines (h .0) ∙ whole-text size text n .1 (h .1),
+        let t = through (known part) 1 n first (sym by-steps ∙ g) in
+        let u = through (sized part (length array)) 5 n second (t .1) in
+        let v = through (leb (length text) 65536) 11 n third (u .1) in
+        let s = decides-size part (length array) (decides-part part .yes (t .0)) .yes (u .0) in
+        let x = whole-text (length array) text n .0 (sym (same-lines s) ∙ v .1) in
+        (record { sized = s; short = decides-le (length text) 65536 .yes (v .0) }, x),
+    λ h. to-lines (h .0) ∙ whole-text (length array) text n .1 (h .1),
   )
 
-  no-other : (k p : ℕ) → verdict ≡ refused k p → (k ≡ 5) ⊎ ((11 ≤ k) × (k ≤ 18))
-  no-other k p e = go (sized size (length array)) (leb (length text) 65536) (sym by-steps ∙ e)
+  no-other : (k p : ℕ) → verdict ≡ refused k p → (k ≡ 1) ⊎ ((k ≡ 5) ⊎ ((11 ≤ k) × (k ≤ 18)))
+  no-other k p e = go (known part) (sized part (length array)) (leb (length text) 65536) (sym by-steps ∙ e)
     where
-      go : (a b : Bool) → step a 5 (step b 11 (verdictOf (lines size text) (length text))) ≡ refused k p → (k ≡ 5) ⊎ ((11 ≤ k) × (k ≤ 18))
-      go false b f = inl (cc)
-      go true false f = let z : 11 ≡ k = cc in inr (omega arith, omega arith)
-      go true true f =
-          let t = line-numbers size text k p (verdict-bad (lines size text) (length text) k p .0 f) in
-          inr (omega (arith, t .0), t .1)
+      go : (a b c : Bool) → step a 1 (step b 5 (step c 11 third)) ≡ refused k p → (k ≡ 1) ⊎ ((k ≡ 5) ⊎ ((11 ≤ k) × (k ≤ 18)))
+      go false b c f = inl (cc)
+      go true false c f = inr (inl (cc))
+      go true true false f = let z : 11 ≡ k = cc in inr (inr (omega arith, omega arith))
+      go true true true f =
+          let t = line-numbers (kindOf part .size) text k p (verdict-bad (lines (kindOf part .size) text) (length text) k p .0 f) in
+          inr (inr (omega (arith, t .0), t .1))
 
 -- The claim for reading an image.
 pub read-image : ReadImage
 read-image =
     record {
-      five = λ size text array p r array′ x. Iff·trans (says-refused r _ 5 p (x .reply)) (five size text array p);
-      five-4096 = λ text array p r array′ x.
-          Iff·trans (Iff·trans (says-refused r _ 5 p (x .reply)) (five 4096 text array p)) (unsized-4096 array p);
-      eleven = λ size text array p r array′ x. Iff·trans (says-refused r _ 11 p (x .reply)) (eleven size text array p);
-      twelve = λ size text array p r array′ x.
-          Iff·trans (says-refused r _ 12 p (x .reply)) (by-lines size text array 12 p (omega arith) (twelve size text p));
-      thirteen = λ size text array p r array′ x.
-          Iff·trans (says-refused r _ 13 p (x .reply)) (by-lines size text array 13 p (omega arith) (thirteen size text p));
-      fourteen = λ size text array p r array′ x.
-          Iff·trans (says-refused r _ 14 p (x .reply)) (by-lines size text array 14 p (omega arith) (fourteen size text p));
-      fifteen = λ size text array p r array′ x.
-          Iff·trans (says-refused r _ 15 p (x .reply)) (by-lines size text array 15 p (omega arith) (fifteen size text p));
-      fifteen-4096 = λ text array p r array′ x.
-          Iff·trans (says-refused r _ 15 p (x .reply)) (by-lines 4096 text array 15 p (omega arith) (fifteen 4096 text p));
-      sixteen = λ size text array p r array′ x.
-          Iff·trans (says-refused r _ 16 p (x .reply)) (by-lines size text array 16 p (omega arith) (sixteen size text p));
-      seventeen = λ size text array p r array′ x.
-          Iff·trans (says-refused r _ 17 p (x .reply)) (by-lines size text array 17 p (omega arith) (seventeen size text p));
-      eighteen = λ size text array p r array′ x.
-          Iff·trans (says-refused r _ 18 p (x .reply)) (by-lines size text array 18 p (omega arith) (eighteen size text p));
-      accepted = λ size text array n r array′ x. Iff·trans (says-accepted r _ n (x .reply)) (taken-text size text array n);
-      no-other = λ size text array k p r array′ x e. no-other size text array k p (says-refused r _ k p (x .reply) .0 e);
+      one = λ part text array p r array′ x. Iff·trans (says-refused r _ 1 p (x .reply)) (one part text array p);
+      five = λ part text array p r array′ x. Iff·trans (says-refused r _ 5 p (x .reply)) (five part text array p);
+      eleven = λ part text array p r array′ x. Iff·trans (says-refused r _ 11 p (x .reply)) (eleven part text array p);
+      twelve = λ part text array p r array′ x.
+          Iff·trans (says-refused r _ 12 p (x .reply)) (by-lines part text array 12 p (omega arith) (twelve (length array) text p));
+      thirteen = λ part text array p r array′ x.
+          Iff·trans (says-refused r _ 13 p (x .reply)) (by-lines part text array 13 p (omega arith) (thirteen (length array) text p));
+      fourteen = λ part text array p r array′ x.
+          Iff·trans (says-refused r _ 14 p (x .reply)) (by-lines part text array 14 p (omega arith) (fourteen (length array) text p));
+      fifteen = λ part text array p r array′ x. Iff·trans (says-refused r _ 15 p (x .reply)) (beyond-part part text array p);
+      sixteen = λ part text array p r array′ x.
+          Iff·trans (says-refused r _ 16 p (x .reply)) (by-lines part text array 16 p (omega arith) (sixteen (length array) text p));
+      seventeen = λ part text array p r array′ x.
+          Iff·trans (says-refused r _ 17 p (x .reply)) (by-lines part text array 17 p (omega arith) (seventeen (length array) text p));
+      eighteen = λ part text array p r array′ x.
+          Iff·trans (says-refused r _ 18 p (x .reply)) (by-lines part text array 18 p (omega arith) (eighteen (length array) text p));
+      accepted = λ part text array n r array′ x. Iff·trans (says-accepted r _ n (x .reply)) (taken-text part text array n);
+      no-other = λ part text array k p r array′ x e. no-other part text array k p (says-refused r _ k p (x .reply) .0 e);
     }

@@ -13,10 +13,10 @@ use Rattle.ground.proofs.Verdicts.{apart}
 use Rattle.part.specs.declared.state.State.{State}
 use Rattle.limits.specs.Samples.{sampleBy, samplesOf}
 use Rattle.refusals.specs.Refusals.{inRange, rowsBy, answersBy, judgedOf}
-use Rattle.exactly.specs.Words.{WithinRanges}
+use Rattle.exactly.specs.Words.{SizeOf, WithinRanges}
 use Rattle.exactly.specs.Replay.{RowsFit, GoodBefore, Replay}
 use Rattle.exactly.proofs.Decides.{Decides, holds, fails, decides-le, decides-eq}
-use Rattle.exactly.proofs.Words.{known-size, decides-state}
+use Rattle.exactly.proofs.Words.{decides-size, decides-state}
 use Rattle.exactly.proofs.Steps.{step, Above, Most, above-step, most-step, stop, stopped, past, passed, through, says-refused, says-accepted}
 use Rattle.exactly.proofs.Samples.{Told, good, long, high, told, nine-back, ten-back, good-back}
 
@@ -62,10 +62,12 @@ module _ (s : State) (es ls array row : List ℕ) where
   unfolding judgedOf
   by-steps = steps (inRange s) (eqb (length array) (kindOf (s .chip .part) .size)) (eqb (length es) (length ls)) (leb (length ls) 65536) (eqb (length row) (length ls)) samples
 
-  -- The array of a state within its ranges has to have 4,096 bytes.
-  decides-array : WithinRanges s
-      → Decides (eqb (length array) (kindOf (s .chip .part) .size)) (length array ≡ 4096) (¬ (length array ≡ 4096))
-  decides-array w = rw (known-size (s .chip .part) (w .part)) (decides-eq (length array) 4096)
+  -- The array of a state within its ranges has to have its part's size.
+  abbrev Fits : Type 0
+  Fits = SizeOf (s .chip .part) (length array)
+
+  decides-array : WithinRanges s → Decides (eqb (length array) (kindOf (s .chip .part) .size)) Fits (¬ Fits)
+  decides-array w = decides-size (s .chip .part) (length array) (w .part)
 
   -- The numbers that are left after each test.
   above-eight : Above 8 samples
@@ -94,21 +96,21 @@ module _ (s : State) (es ls array row : List ℕ) where
       (decides-state s .yes (t .0), t .1)
 
   past-five : (k p : ℕ) → 5 < k → judgedOf s es ls array row ≡ refused k p
-      → WithinRanges s × (length array ≡ 4096) × (sixth ≡ refused k p)
+      → WithinRanges s × Fits × (sixth ≡ refused k p)
   past-five k p h e =
       let t = past-four k p (omega arith) e in
       let u = past (eqb (length array) (kindOf (s .chip .part) .size)) 5 k p sixth h (t .1) in
       (t .0, decides-array (t .0) .yes (u .0), u .1)
 
   past-six : (k p : ℕ) → 6 < k → judgedOf s es ls array row ≡ refused k p
-      → WithinRanges s × (length array ≡ 4096) × (length es ≡ length ls) × (seventh ≡ refused k p)
+      → WithinRanges s × Fits × (length es ≡ length ls) × (seventh ≡ refused k p)
   past-six k p h e =
       let t = past-five k p (omega arith) e in
       let u = past (eqb (length es) (length ls)) 6 k p seventh h (t .2) in
       (t .0, t .1, decides-eq (length es) (length ls) .yes (u .0), u .1)
 
   past-seven : (k p : ℕ) → 7 < k → judgedOf s es ls array row ≡ refused k p
-      → WithinRanges s × (length array ≡ 4096) × (length es ≡ length ls) × (length ls ≤ 65536) × (eighth ≡ refused k p)
+      → WithinRanges s × Fits × (length es ≡ length ls) × (length ls ≤ 65536) × (eighth ≡ refused k p)
   past-seven k p h e =
       let t = past-six k p (omega arith) e in
       let u = past (leb (length ls) 65536) 7 k p eighth h (t .3) in
@@ -127,13 +129,13 @@ module _ (s : State) (es ls array row : List ℕ) where
   to-five : WithinRanges s → judgedOf s es ls array row ≡ fifth
   to-five w = by-steps ∙ passed (inRange s) 4 fifth (holds (decides-state s) w)
 
-  to-six : WithinRanges s → length array ≡ 4096 → judgedOf s es ls array row ≡ sixth
+  to-six : WithinRanges s → Fits → judgedOf s es ls array row ≡ sixth
   to-six w a = to-five w ∙ passed (eqb (length array) (kindOf (s .chip .part) .size)) 5 sixth (holds (decides-array w) a)
 
-  to-seven : WithinRanges s → length array ≡ 4096 → length es ≡ length ls → judgedOf s es ls array row ≡ seventh
+  to-seven : WithinRanges s → Fits → length es ≡ length ls → judgedOf s es ls array row ≡ seventh
   to-seven w a b = to-six w a ∙ passed (eqb (length es) (length ls)) 6 seventh (holds (decides-eq (length es) (length ls)) b)
 
-  to-eight : WithinRanges s → length array ≡ 4096 → length es ≡ length ls → length ls ≤ 65536 → judgedOf s es ls array row ≡ eighth
+  to-eight : WithinRanges s → Fits → length es ≡ length ls → length ls ≤ 65536 → judgedOf s es ls array row ≡ eighth
   to-eight w a b c = to-seven w a b ∙ passed (leb (length ls) 65536) 7 eighth (holds (decides-le (length ls) 65536) c)
 
   to-samples : RowsFit s es ls array row → judgedOf s es ls array row ≡ samples
@@ -147,7 +149,7 @@ module _ (s : State) (es ls array row : List ℕ) where
     λ h. by-steps ∙ stopped (inRange s) 4 p fifth (fails (decides-state s) (h .1)) (h .0),
   )
 
-  five : (p : ℕ) → (judgedOf s es ls array row ≡ refused 5 p) ↔ ((p ≡ 0) × WithinRanges s × ¬ (length array ≡ 4096))
+  five : (p : ℕ) → (judgedOf s es ls array row ≡ refused 5 p) ↔ ((p ≡ 0) × WithinRanges s × ¬ Fits)
   five p = (
     λ e.
         let t = past-four 5 p (omega arith) e in
@@ -159,7 +161,7 @@ module _ (s : State) (es ls array row : List ℕ) where
   )
 
   six : (p : ℕ) → (judgedOf s es ls array row ≡ refused 6 p)
-      ↔ ((p ≡ 0) × WithinRanges s × (length array ≡ 4096) × ¬ (length es ≡ length ls))
+      ↔ ((p ≡ 0) × WithinRanges s × Fits × ¬ (length es ≡ length ls))
   six p = (
     λ e.
         let t = past-five 6 p (omega arith) e in
@@ -171,7 +173,7 @@ module _ (s : State) (es ls array row : List ℕ) where
   )
 
   seven : (p : ℕ) → (judgedOf s es ls array row ≡ refused 7 p)
-      ↔ ((p ≡ 0) × WithinRanges s × (length array ≡ 4096) × (length es ≡ length ls) × (65536 < length ls))
+      ↔ ((p ≡ 0) × WithinRanges s × Fits × (length es ≡ length ls) × (65536 < length ls))
   seven p = (
     λ e.
         let t = past-six 7 p (omega arith) e in
@@ -185,7 +187,7 @@ module _ (s : State) (es ls array row : List ℕ) where
   eight : (p : ℕ) → (judgedOf s es ls array row ≡ refused 8 p)
       ↔ ((p ≡ 0)
       × WithinRanges s
-      × (length array ≡ 4096)
+      × Fits
       × (length es ≡ length ls)
       × (length ls ≤ 65536)
       × ¬ (length row ≡ length ls))

@@ -1,5 +1,5 @@
--- Refusals 5 and 19 of writing an image, exactly when. Assumes nothing.
-use Prim.Native.Nat.{ℕ, _+_, _*_, _/_, _≤_, _<_}
+-- Refusals 1, 5 and 19 of writing an image, exactly when. Assumes nothing.
+use Prim.Native.Nat.{ℕ, _/_, _≤_, _<_}
 use mathlib.Core.Bool.{Bool, true, false}
 use mathlib.Core.List.{List}
 use mathlib.Core.Logic.{_↔_, _⊎_, inl, inr, Iff·trans}
@@ -7,115 +7,157 @@ use mathlib.Core.Path.{_≡_, refl, ap, sym, _∙_}
 use native.Mathlib.Omega.{arith}
 use lib.Dec.{eqb, leb}
 use lib.ListN.{length}
-use borrow.Author.Tests.{eqb-true, eq-eqb, leb-true, le-leb}
+use Rattle.ground.specs.Kind.{kindOf, known}
 use Rattle.ground.specs.Verdict.{Verdict, accepted, refused}
-use Rattle.ground.proofs.Tests.{and-split}
 use Rattle.ground.proofs.Verdicts.{apart}
-use Rattle.forms.specs.Writing.{imageText, linesLength, lengthOf}
+use Rattle.forms.specs.Writing.{imageText, linesLength, lengthOf, mostLength}
 use Rattle.forms.proofs.Lengths.{length-image}
 use Rattle.formats.proofs.Named.{intel-measured}
 use Rattle.intel.specs.Intel.{intel}
 use Rattle.image.specs.Promises.{sized, writeBy, writeVerdict}
-use Rattle.exactly.specs.ReadImage.{Sized}
+use Rattle.exactly.specs.Words.{SmallPart, LargePart, KnownPart, ByPart, SizeOf}
 use Rattle.exactly.specs.WriteImage.{WriteImage}
-use Rattle.exactly.proofs.Decides.{Decides, holds, fails, decides-by, decides-le}
+use Rattle.exactly.proofs.Decides.{Decides, holds, fails, decides-le}
+use Rattle.exactly.proofs.Words.{small-size, large-size, size-known, decides-part, decides-size}
 use Rattle.exactly.proofs.Steps.{step, Above, above-accepted, above-step, stop, stopped, past, passed, through, says-refused, says-accepted}
 
--- An array of the size named.
-pub decides-sized : (size : ℕ) (array : List ℕ) → Decides (sized size (length array)) (Sized size array) (¬ Sized size array)
-unfolding sized
-decides-sized size array =
-    decides-by
-    (λ e.
-    let t = and-split (eqb (length array) size) (leb size 4096) e in
-    (eqb-true (length array) size (t .0), leb-true size 4096 (t .1)))
-    (λ h. rw (eq-eqb (length array) size (h .0), le-leb size 4096 (h .1)))
+steps : (a b c : Bool) (n : ℕ) → writeBy a b c n ≡ step a 1 (step b 5 (step c 19 (accepted n)))
+steps false b c n = refl
+steps true false c n = refl
+steps true true false n = refl
+steps true true true n = refl
 
--- At 4,096 bytes only the array's length is asked.
-pub unsized-4096 : (array : List ℕ) (p : ℕ) → ((p ≡ 0) × ¬ Sized 4096 array) ↔ ((p ≡ 0) × ¬ (length array ≡ 4096))
-unsized-4096 array p = (λ h. (h .0, λ e. h .1 (e, omega arith)), λ h. (h .0, λ s. h .1 (s .0)))
+-- The room that the longest text of each part needs.
+small-room : (part : ℕ) → SmallPart part → mostLength intel (kindOf part .size) ≡ 11276
+unfolding linesLength
+small-room part s = rw (small-size part s)
 
-steps : (a b : Bool) (n : ℕ) → writeBy a b n ≡ step a 5 (step b 19 (accepted n))
-steps false b n = refl
-steps true false n = refl
-steps true true n = refl
+large-room : (part : ℕ) → LargePart part → mostLength intel (kindOf part .size) ≡ 45068
+unfolding linesLength
+large-room part l = rw (large-size part l)
 
-module _ (size : ℕ) (array out : List ℕ) where
+-- A buffer that is too short, and one that is not, by the part.
+room-short : (part n : ℕ) → KnownPart part → n < mostLength intel (kindOf part .size) → ByPart part (n < 11276) (n < 45068)
+room-short part n (inl s) h = inl (s, omega (arith, small-room part s))
+room-short part n (inr l) h = inr (l, omega (arith, large-room part l))
+
+short-room : (part n : ℕ) → ByPart part (n < 11276) (n < 45068) → n < mostLength intel (kindOf part .size)
+short-room part n (inl x) = let h = x .1 in omega (arith, small-room part (x .0))
+short-room part n (inr x) = let h = x .1 in omega (arith, large-room part (x .0))
+
+room-enough : (part n : ℕ) → KnownPart part → mostLength intel (kindOf part .size) ≤ n → ByPart part (11276 ≤ n) (45068 ≤ n)
+room-enough part n (inl s) h = inl (s, omega (arith, small-room part s))
+room-enough part n (inr l) h = inr (l, omega (arith, large-room part l))
+
+enough-room : (part n : ℕ) → ByPart part (11276 ≤ n) (45068 ≤ n) → mostLength intel (kindOf part .size) ≤ n
+enough-room part n (inl x) = let h = x .1 in omega (arith, small-room part (x .0))
+enough-room part n (inr x) = let h = x .1 in omega (arith, large-room part (x .0))
+
+module _ (part : ℕ) (array out : List ℕ) where
+  abbrev most : ℕ
+  most = mostLength intel (kindOf part .size)
+
   abbrev room : Verdict
-  room = step (leb (44 * (size / 16) + 12) (length out)) 19 (accepted (lengthOf intel array))
+  room = step (leb most (length out)) 19 (accepted (lengthOf intel array))
 
-  by-steps : writeVerdict intel size array out ≡ step (sized size (length array)) 5 room
-  unfolding writeVerdict linesLength
-  by-steps = steps (sized size (length array)) (leb (44 * (size / 16) + 12) (length out)) (lengthOf intel array)
+  abbrev size : Verdict
+  size = step (sized part (length array)) 5 room
 
-  five : (p : ℕ) → (writeVerdict intel size array out ≡ refused 5 p) ↔ ((p ≡ 0) × ¬ Sized size array)
+  by-steps : writeVerdict intel part array out ≡ step (known part) 1 size
+  unfolding writeVerdict
+  by-steps = steps (known part) (sized part (length array)) (leb most (length out)) (lengthOf intel array)
+
+  above-five : Above 5 room
+  above-five = above-step (leb most (length out)) 5 19 (accepted (lengthOf intel array)) (omega arith) (above-accepted 5 (lengthOf intel array))
+
+  above-one : Above 1 size
+  above-one = above-step (sized part (length array)) 1 5 room (omega arith) (λ j q e. let h = above-five j q e in omega arith)
+
+  -- What holds where a later number is the reply, and what the verdict is where the tests pass.
+  past-size : (k p : ℕ) → 5 < k → writeVerdict intel part array out ≡ refused k p → SizeOf part (length array) × (room ≡ refused k p)
+  past-size k p h e =
+      let t = past (known part) 1 k p size (omega arith) (sym by-steps ∙ e) in
+      let u = past (sized part (length array)) 5 k p room h (t .1) in
+      (decides-size part (length array) (decides-part part .yes (t .0)) .yes (u .0), u .1)
+
+  to-size : KnownPart part → writeVerdict intel part array out ≡ size
+  to-size k = by-steps ∙ passed (known part) 1 size (holds (decides-part part) k)
+
+  to-room : SizeOf part (length array) → writeVerdict intel part array out ≡ room
+  to-room s =
+      let k = size-known part (length array) s in
+      to-size k ∙ passed (sized part (length array)) 5 room (holds (decides-size part (length array) k) s)
+
+  one : (p : ℕ) → (writeVerdict intel part array out ≡ refused 1 p) ↔ ((p ≡ 0) × ¬ KnownPart part)
+  one p = (
+    λ e. let t = stop (known part) 1 p size above-one (sym by-steps ∙ e) in (t .1, decides-part part .no (t .0)),
+    λ h. by-steps ∙ stopped (known part) 1 p size (fails (decides-part part) (h .1)) (h .0),
+  )
+
+  five : (p : ℕ) → (writeVerdict intel part array out ≡ refused 5 p) ↔ ((p ≡ 0) × KnownPart part × ¬ SizeOf part (length array))
   five p = (
     λ e.
-        let a : Above 5 room =
-        above-step (leb (44 * (size / 16) + 12) (length out)) 5 19 (accepted (lengthOf intel array)) (omega arith) (above-accepted 5 (lengthOf intel array)) in
-        let t = stop (sized size (length array)) 5 p room a (sym by-steps ∙ e) in
-        (t .1, decides-sized size array .no (t .0)),
-    λ h. by-steps ∙ stopped (sized size (length array)) 5 p room (fails (decides-sized size array) (h .1)) (h .0),
+        let t = past (known part) 1 5 p size (omega arith) (sym by-steps ∙ e) in
+        let k = decides-part part .yes (t .0) in
+        let u = stop (sized part (length array)) 5 p room above-five (t .1) in
+        (u .1, k, decides-size part (length array) k .no (u .0)),
+    λ h.
+        to-size (h .1)
+        ∙ stopped (sized part (length array)) 5 p room (fails (decides-size part (length array) (h .1)) (h .2)) (h .0),
   )
 
-  nineteen : (p : ℕ) → (writeVerdict intel size array out ≡ refused 19 p)
-      ↔ ((p ≡ 0) × Sized size array × (length out < 44 * (size / 16) + 12))
+  nineteen : (p : ℕ) → (writeVerdict intel part array out ≡ refused 19 p)
+      ↔ ((p ≡ 0) × SizeOf part (length array) × ByPart part (length out < 11276) (length out < 45068))
   nineteen p = (
     λ e.
-        let t = past (sized size (length array)) 5 19 p room (omega arith) (sym by-steps ∙ e) in
-        let u = stop (leb (44 * (size / 16) + 12) (length out)) 19 p (accepted (lengthOf intel array)) (above-accepted 19 (lengthOf intel array)) (t .1) in
-        (u .1, decides-sized size array .yes (t .0), decides-le (44 * (size / 16) + 12) (length out) .no (u .0)),
+        let t = past-size 19 p (omega arith) e in
+        let u = stop (leb most (length out)) 19 p (accepted (lengthOf intel array)) (above-accepted 19 (lengthOf intel array)) (t .1) in
+        (u .1, t .0, room-short part (length out) (size-known part (length array) (t .0)) (decides-le most (length out) .no (u .0))),
     λ h.
-        by-steps
-        ∙ passed (sized size (length array)) 5 room (holds (decides-sized size array) (h .1))
-        ∙ stopped (leb (44 * (size / 16) + 12) (length out)) 19 p (accepted (lengthOf intel array)) (fails (decides-le (44 * (size / 16) + 12) (length out)) (h .2)) (h .0),
+        to-room (h .1)
+        ∙ stopped (leb most (length out)) 19 p (accepted (lengthOf intel array)) (fails (decides-le most (length out)) (short-room part (length out) (h .2))) (h .0),
   )
 
-  taken : (n : ℕ) → (writeVerdict intel size array out ≡ accepted n)
-      ↔ ((n ≡ length (imageText intel array)) × Sized size array × (44 * (size / 16) + 12 ≤ length out))
+  taken : (n : ℕ) → (writeVerdict intel part array out ≡ accepted n)
+      ↔ ((n ≡ length (imageText intel array))
+      × SizeOf part (length array)
+      × ByPart part (11276 ≤ length out) (45068 ≤ length out))
   taken n = (
     λ e.
-        let t = through (sized size (length array)) 5 n room (sym by-steps ∙ e) in
-        let u = through (leb (44 * (size / 16) + 12) (length out)) 19 n (accepted (lengthOf intel array)) (t .1) in
-        let v : accepted (lengthOf intel array) ≡ accepted n = u .1 in
+        let t = through (known part) 1 n size (sym by-steps ∙ e) in
+        let k = decides-part part .yes (t .0) in
+        let u = through (sized part (length array)) 5 n room (t .1) in
+        let v = through (leb most (length out)) 19 n (accepted (lengthOf intel array)) (u .1) in
+        let w : accepted (lengthOf intel array) ≡ accepted n = v .1 in
         let m : n ≡ lengthOf intel array = cc in (
           m ∙ sym (length-image intel intel-measured array),
-          decides-sized size array .yes (t .0),
-          decides-le (44 * (size / 16) + 12) (length out) .yes (u .0),
+          decides-size part (length array) k .yes (u .0),
+          room-enough part (length out) k (decides-le most (length out) .yes (v .0)),
         ),
     λ h.
         let m : lengthOf intel array ≡ n = sym (h .0 ∙ length-image intel intel-measured array) in
-        by-steps
-        ∙ passed (sized size (length array)) 5 room (holds (decides-sized size array) (h .1))
-        ∙ passed (leb (44 * (size / 16) + 12) (length out)) 19 (accepted (lengthOf intel array)) (holds (decides-le (44 * (size / 16) + 12) (length out)) (h .2))
+        to-room (h .1)
+        ∙ passed (leb most (length out)) 19 (accepted (lengthOf intel array)) (holds (decides-le most (length out)) (enough-room part (length out) (h .2)))
         ∙ ap accepted m,
   )
 
-  no-other : (k p : ℕ) → writeVerdict intel size array out ≡ refused k p → (k ≡ 5) ⊎ (k ≡ 19)
-  no-other k p e = go (sized size (length array)) (leb (44 * (size / 16) + 12) (length out)) (sym by-steps ∙ e)
+  no-other : (k p : ℕ) → writeVerdict intel part array out ≡ refused k p → (k ≡ 1) ⊎ ((k ≡ 5) ⊎ (k ≡ 19))
+  no-other k p e = go (known part) (sized part (length array)) (leb most (length out)) (sym by-steps ∙ e)
     where
-      go : (a b : Bool) → step a 5 (step b 19 (accepted (lengthOf intel array))) ≡ refused k p → (k ≡ 5) ⊎ (k ≡ 19)
-      go false b f = inl (cc)
-      go true false f = inr (cc)
-      go true true f = absurd (apart k p (lengthOf intel array) (sym f))
-
--- The same at 4,096 bytes.
-at-4096 : (array out : List ℕ) (p : ℕ) → (writeVerdict intel 4096 array out ≡ refused 19 p)
-    ↔ ((p ≡ 0) × (length array ≡ 4096) × (length out < 11276))
-at-4096 array out p = (
-  λ e. let t = nineteen 4096 array out p .0 e in (t .0, t .1 .0, t .2),
-  λ h. nineteen 4096 array out p .1 (h .0, (h .1, omega arith), h .2),
-)
+      go : (a b c : Bool) → step a 1 (step b 5 (step c 19 (accepted (lengthOf intel array)))) ≡ refused k p
+          → (k ≡ 1) ⊎ ((k ≡ 5) ⊎ (k ≡ 19))
+      go false b c f = inl (cc)
+      go true false c f = inr (inl (cc))
+      go true true false f = inr (inr (cc))
+      go true true true f = absurd (apart k p (lengthOf intel array) (sym f))
 
 -- The claim for writing an image.
 pub write-image : WriteImage
 write-image =
     record {
-      five = λ size array out p r out′ x. Iff·trans (says-refused r _ 5 p (x .reply)) (five size array out p);
-      five-4096 = λ array out p r out′ x.
-          Iff·trans (Iff·trans (says-refused r _ 5 p (x .reply)) (five 4096 array out p)) (unsized-4096 array p);
-      nineteen = λ array out p r out′ x. Iff·trans (says-refused r _ 19 p (x .reply)) (at-4096 array out p);
-      nineteen-sized = λ size array out p r out′ x. Iff·trans (says-refused r _ 19 p (x .reply)) (nineteen size array out p);
-      accepted = λ size array out n r out′ x. Iff·trans (says-accepted r _ n (x .reply)) (taken size array out n);
-      no-other = λ size array out k p r out′ x e. no-other size array out k p (says-refused r _ k p (x .reply) .0 e);
+      one = λ part array out p r out′ x. Iff·trans (says-refused r _ 1 p (x .reply)) (one part array out p);
+      five = λ part array out p r out′ x. Iff·trans (says-refused r _ 5 p (x .reply)) (five part array out p);
+      nineteen = λ part array out p r out′ x. Iff·trans (says-refused r _ 19 p (x .reply)) (nineteen part array out p);
+      accepted = λ part array out n r out′ x. Iff·trans (says-accepted r _ n (x .reply)) (taken part array out n);
+      no-other = λ part array out k p r out′ x e. no-other part array out k p (says-refused r _ k p (x .reply) .0 e);
     }

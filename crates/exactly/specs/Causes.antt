@@ -6,7 +6,6 @@ use mathlib.Core.Bool.{false}
 use mathlib.Core.List.{List, [], _∷_}
 use mathlib.Core.Logic.{_⊎_}
 use mathlib.Core.Path.{_≡_}
-use lib.Dec.{leb}
 use lib.ListN.{take}
 use Rattle.ground.specs.Kind.{known}
 use Rattle.ground.specs.Size.{sizeMeant, SizesPart}
@@ -22,11 +21,11 @@ use Rattle.power.specs.Power.{poweredUp}
 use Rattle.power.specs.Promises.{PowersUp}
 use Rattle.twin.specs.Promises.{Replays}
 use Rattle.intel.specs.Intel.{intel}
-use Rattle.forms.specs.Reading.{bad, readingOf}
-use Rattle.image.specs.Promises.{largestSize, imageBy, imageOf, writeVerdict, ReadsImage, WritesImage}
+use Rattle.forms.specs.Reading.{bad}
+use Rattle.image.specs.Promises.{imageOf, writeVerdict, ReadsImage, WritesImage}
 use Rattle.texts.specs.Laying.{Starts}
 use Rattle.texts.specs.Refusal.{refusalLine}
-use Rattle.tidying.specs.Shown.{shownOf}
+use Rattle.tidying.specs.Shown.{textOf, shownOf}
 use Rattle.telling.specs.Told.{ReadsThrough, WritesThrough}
 use Rattle.door.specs.Promises.{ReplaysOnce}
 
@@ -40,14 +39,14 @@ pub record NoRefusalWithoutCause : Type 0 where
       → Lists s es ls array row r array′ row′ → meant (r .reply) ≡ refused k p → captureOf s es ls array ≡ refused k p
   pub size : (part : ℕ) (r : Size) (k p : ℕ) → SizesPart part r → sizeMeant r ≡ refused k p
       → (known part ≡ false) × (k ≡ 1) × (p ≡ 0)
-  pub read-image : (size : ℕ) (text array : List ℕ) (r : Reply) (array′ : List ℕ) (k p : ℕ)
-      → ReadsImage intel size text array r array′ → meant r ≡ refused k p → imageOf intel size text array ≡ bad k p
-  pub write-image : (size : ℕ) (array out : List ℕ) (r : Reply) (out′ : List ℕ) (k p : ℕ)
-      → WritesImage intel size array out r out′ → meant r ≡ refused k p → writeVerdict intel size array out ≡ refused k p
+  pub read-image : (part : ℕ) (text array : List ℕ) (r : Reply) (array′ : List ℕ) (k p : ℕ)
+      → ReadsImage intel part text array r array′ → meant r ≡ refused k p → imageOf intel part text array ≡ bad k p
+  pub write-image : (part : ℕ) (array out : List ℕ) (r : Reply) (out′ : List ℕ) (k p : ℕ)
+      → WritesImage intel part array out r out′ → meant r ≡ refused k p → writeVerdict intel part array out ≡ refused k p
   -- the program writes a refusal's line only where the table has that refusal
-  pub tidy : (size : ℕ) (text out : List ℕ) (r : ℕ) (out′ : List ℕ) (k p : ℕ)
-      → Starts (shownOf size text) out r out′ → take r out′ ≡ refusalLine k p
-      → imageBy (leb size largestSize) (readingOf intel size text) ≡ bad k p
+  pub tidy : (part : ℕ) (text out : List ℕ) (r : ℕ) (out′ : List ℕ) (k p : ℕ)
+      → Starts (shownOf part text) out r out′ → take r out′ ≡ refusalLine k p
+      → textOf part text ≡ bad k p
   -- through the door the reply row has a number that is not 0
   pub door-replay : (part select stored : ℕ) (es ls array row numbers : List ℕ) (r : ℕ) (array′ row′ numbers′ : List ℕ) (k p : ℕ)
       → ReplaysOnce part select stored es ls array row numbers r array′ row′ numbers′ → r ≡ 1 → ¬ (k ≡ 0)
@@ -56,9 +55,9 @@ pub record NoRefusalWithoutCause : Type 0 where
       ⊎ ((n : ℕ)
       × (powerOf part select stored ≡ accepted n)
       × (judgedOf (poweredUp part select stored) es ls array row ≡ refused k p))
-  pub door-read-image : (size : ℕ) (text array numbers : List ℕ) (r : ℕ) (array′ numbers′ : List ℕ) (k p : ℕ)
-      → ReadsThrough size text array numbers r array′ numbers′ → r ≡ 1 → ¬ (k ≡ 0) → numbers′ ≡ k ∷ p ∷ []
-      → imageOf intel size text array ≡ bad k p
-  pub door-write-image : (size : ℕ) (array out numbers : List ℕ) (r : ℕ) (out′ numbers′ : List ℕ) (k p : ℕ)
-      → WritesThrough size array out numbers r out′ numbers′ → r ≡ 1 → ¬ (k ≡ 0) → numbers′ ≡ k ∷ p ∷ []
-      → writeVerdict intel size array out ≡ refused k p
+  pub door-read-image : (part : ℕ) (text array numbers : List ℕ) (r : ℕ) (array′ numbers′ : List ℕ) (k p : ℕ)
+      → ReadsThrough part text array numbers r array′ numbers′ → r ≡ 1 → ¬ (k ≡ 0) → numbers′ ≡ k ∷ p ∷ []
+      → imageOf intel part text array ≡ bad k p
+  pub door-write-image : (part : ℕ) (array out numbers : List ℕ) (r : ℕ) (out′ numbers′ : List ℕ) (k p : ℕ)
+      → WritesThrough part array out numbers r out′ numbers′ → r ≡ 1 → ¬ (k ≡ 0) → numbers′ ≡ k ∷ p ∷ []
+      → writeVerdict intel part array out ≡ refused k p

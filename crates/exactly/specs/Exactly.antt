@@ -2,8 +2,6 @@
 -- when). Limits, numbers and places are written out as the paper has them. Of the list of transfers, of captures through the door and of
 -- the program the same follows by Causes and Demand1.
 -- For a person from the line: the table of refusals once more. A number comes exactly where its line of the table says, and at that place.
-use mathlib.Core.Path.{_≡_}
-use Rattle.door.specs.Promises.{imageSize}
 use Rattle.exactly.specs.PowerUp.{PowerUp}
 use Rattle.exactly.specs.Replay.{Replay}
 use Rattle.exactly.specs.ReadImage.{ReadImage}
@@ -15,5 +13,3 @@ pub record Exactly : Type 0 where
   pub replay : Replay
   pub read-image : ReadImage
   pub write-image : WriteImage
-  -- images go through the door at the size of the part
-  pub door-size : imageSize ≡ 4096

@@ -9,11 +9,11 @@ use Rattle.ground.specs.declared.kinds.Size.{Size}
 use Rattle.ground.specs.declared.kinds.Size.the-variants.{Bytes, Unknown}
 use Rattle.power.specs.Promises.{PowersUp}
 use Rattle.power.specs.declared.Replayed.{Replayed}
-use Rattle.exactly.specs.Words.{KnownPart, LatchBit}
+use Rattle.exactly.specs.Words.{KnownPart, SizeOf, LatchBit}
 
 -- Power-up, by number (Refusal numbers, 1 to 3).
 pub record PowerUp : Type 0 where
-  -- part is not 4323 or 4325
+  -- part is not 4323, 4325, 4283 or 4285
   pub one : (part select stored p : ℕ) (r : Replayed) → PowersUp part select stored r
       → (r .reply ≡ Refused 1 p) ↔ ((p ≡ 0) × ¬ KnownPart part)
   -- device select over 3
@@ -28,6 +28,6 @@ pub record PowerUp : Type 0 where
   -- and no other number is given
   pub no-other : (part select stored k p : ℕ) (r : Replayed) → PowersUp part select stored r
       → r .reply ≡ Refused k p → (1 ≤ k) × (k ≤ 3)
-  -- the size of a part: refusal 1 by the same condition, else 4,096
+  -- the size of a part: refusal 1 by the same condition, else 4,096 or 16,384
   pub size-one : (part : ℕ) (r : Size) → SizesPart part r → (r ≡ Unknown) ↔ (¬ KnownPart part)
-  pub size-else : (part n : ℕ) (r : Size) → SizesPart part r → (r ≡ Bytes n) ↔ ((n ≡ 4096) × KnownPart part)
+  pub size-else : (part n : ℕ) (r : Size) → SizesPart part r → (r ≡ Bytes n) ↔ SizeOf part n

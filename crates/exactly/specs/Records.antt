@@ -58,6 +58,6 @@ TypeTaken l = (type l ≡ 0) ⊎ EndType l
 abbrev pub Gives : List ℕ → ℕ → Type 0
 Gives l a = (address l ≤ a) × (a < address l + count l)
 
--- A line gives a byte beyond the array's last place, for 4,096 bytes 0FFFh (Refusal numbers, 15).
+-- A line gives a byte beyond the last place of an array of a size (Refusal numbers, 15).
 abbrev pub Beyond : ℕ → List ℕ → Type 0
 Beyond size l = (a : ℕ) × Gives l a × (size ≤ a)

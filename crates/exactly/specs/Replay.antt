@@ -10,12 +10,12 @@ use Rattle.ground.specs.declared.Reply.the-variants.{Accepted, Refused}
 use Rattle.part.specs.declared.state.State.{State}
 use Rattle.power.specs.declared.Replayed.{Replayed}
 use Rattle.twin.specs.Promises.{Replays}
-use Rattle.exactly.specs.Words.{WithinRanges}
+use Rattle.exactly.specs.Words.{SizeOf, WithinRanges}
 
 -- None of 4 to 8 is due (Refusal numbers, 4 to 8).
 pub record RowsFit (s : State) (es ls array row : List ℕ) : Type 0 where
   pub state : WithinRanges s
-  pub sized : length array ≡ 4096
+  pub sized : SizeOf (s .chip .part) (length array)
   pub rows : length es ≡ length ls
   pub few : length ls ≤ 65536
   pub answers : length row ≡ length ls
@@ -29,26 +29,26 @@ pub record Replay : Type 0 where
   -- a state field is outside its range
   pub four : (s : State) (es ls array row : List ℕ) (p : ℕ) (r : Replayed) (array′ row′ : List ℕ)
       → Replays s es ls array row r array′ row′ → (r .reply ≡ Refused 4 p) ↔ ((p ≡ 0) × ¬ WithinRanges s)
-  -- array length is not 4,096
+  -- array length is not 4,096, or 16,384 where the state's part is a larger one
   pub five : (s : State) (es ls array row : List ℕ) (p : ℕ) (r : Replayed) (array′ row′ : List ℕ)
       → Replays s es ls array row r array′ row′
-      → (r .reply ≡ Refused 5 p) ↔ ((p ≡ 0) × WithinRanges s × ¬ (length array ≡ 4096))
+      → (r .reply ≡ Refused 5 p) ↔ ((p ≡ 0) × WithinRanges s × ¬ SizeOf (s .chip .part) (length array))
   -- time and level rows differ in length
   pub six : (s : State) (es ls array row : List ℕ) (p : ℕ) (r : Replayed) (array′ row′ : List ℕ)
       → Replays s es ls array row r array′ row′
-      → (r .reply ≡ Refused 6 p) ↔ ((p ≡ 0) × WithinRanges s × (length array ≡ 4096) × ¬ (length es ≡ length ls))
+      → (r .reply ≡ Refused 6 p) ↔ ((p ≡ 0) × WithinRanges s × SizeOf (s .chip .part) (length array) × ¬ (length es ≡ length ls))
   -- over 65,536 samples
   pub seven : (s : State) (es ls array row : List ℕ) (p : ℕ) (r : Replayed) (array′ row′ : List ℕ)
       → Replays s es ls array row r array′ row′
       → (r .reply ≡ Refused 7 p)
-      ↔ ((p ≡ 0) × WithinRanges s × (length array ≡ 4096) × (length es ≡ length ls) × (65536 < length ls))
+      ↔ ((p ≡ 0) × WithinRanges s × SizeOf (s .chip .part) (length array) × (length es ≡ length ls) × (65536 < length ls))
   -- answer row's length is not the level row's
   pub eight : (s : State) (es ls array row : List ℕ) (p : ℕ) (r : Replayed) (array′ row′ : List ℕ)
       → Replays s es ls array row r array′ row′
       → (r .reply ≡ Refused 8 p)
       ↔ ((p ≡ 0)
       × WithinRanges s
-      × (length array ≡ 4096)
+      × SizeOf (s .chip .part) (length array)
       × (length es ≡ length ls)
       × (length ls ≤ 65536)
       × ¬ (length row ≡ length ls))
