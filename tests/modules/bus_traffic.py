@@ -1,8 +1,6 @@
 """Bus traffic for `shown` and `sigrok`: a host that gives samples, and what the rules say of every byte it sends or reads."""
 PAGE, WRITE_TIME = 64, 5000
 REGISTER = 0xFFFF
-SIZES = {4323: 4096, 4325: 4096, 4283: 16_384, 4285: 16_384}  # bytes of each part's array
-RESET_HIGH = (4325, 4285)  # parts whose RESET pin is high when active
 
 
 class Part:

@@ -18,7 +18,7 @@ use Rattle.intel.specs.Intel.{intel}
 use Rattle.image.specs.Promises.{imageOf, writeVerdict}
 use Rattle.texts.specs.Numbers.{decimalOf}
 use Rattle.texts.specs.Refusal.{refusalLine}
-use Rattle.tidying.specs.Shown.{textOf, shownOf}
+use Rattle.tidying.specs.Shown.{textGives, shownOf}
 use Rattle.image_cases.specs.ImageCases.{codesOf}
 use Rattle.captures.specs.Once.{captureVerdict}
 use Rattle.transfers.specs.declared.Listed.{Listed}
@@ -87,12 +87,12 @@ no-size-written : writeVerdict intel x4283 ones [] ≡ refused 5 0
 unfolding writeVerdict kindOf
 no-size-written = refl
 
-no-part-line : textOf 4324 [] ≡ bad 1 0
+no-part-line : textGives 4324 [] ≡ bad 1 0
 unfolding kindOf
 no-part-line = refl
 
 -- The line that the program writes for an empty text.
-no-text-line : textOf x4323 [] ≡ bad 17 0
+no-text-line : textGives x4323 [] ≡ bad 17 0
 unfolding readingOf kindOf
 no-text-line = refl
 

@@ -28,7 +28,7 @@ use Rattle.forms.specs.Reading.{bad}
 use Rattle.image.specs.Promises.{imageOf, writeVerdict, ReadsImage, WritesImage}
 use Rattle.texts.specs.Refusal.{refusalLine}
 use Rattle.texts.specs.Laying.{Starts}
-use Rattle.tidying.specs.Shown.{textOf, shownOf}
+use Rattle.tidying.specs.Shown.{textGives, shownOf}
 use Rattle.telling.specs.Told.{ReadsThrough, WritesThrough}
 use Rattle.door.specs.Promises.{ReplaysOnce}
 use Rattle.transfers.specs.declared.Listed.{Listed}
@@ -47,7 +47,7 @@ pub record Demand1 : Type 0 where
   pub write-image : (part : ℕ) (array out : List ℕ) (r : Reply) (out′ : List ℕ) (k p : ℕ)
       → WritesImage intel part array out r out′ → writeVerdict intel part array out ≡ refused k p → (meant r ≡ refused k p) × (out′ ≡ out)
   pub tidy : (part : ℕ) (text out : List ℕ) (r : ℕ) (out′ : List ℕ) (k p : ℕ)
-      → Starts (shownOf part text) out r out′ → textOf part text ≡ bad k p
+      → Starts (shownOf part text) out r out′ → textGives part text ≡ bad k p
       → (r ≡ length (refusalLine k p)) × (out′ ≡ refusalLine k p ++ drop r out)
   pub size : (part : ℕ) (r : Size) → SizesPart part r → known part ≡ false → sizeMeant r ≡ refused 1 0
   pub door-power-up : (part select stored : ℕ) (es ls array row numbers : List ℕ) (r : ℕ) (array′ row′ numbers′ : List ℕ) (k p : ℕ)

@@ -22,7 +22,7 @@ use Rattle.image.specs.Promises.{imageOf, writeVerdict}
 use Rattle.reader.specs.Answers.{verdictOf}
 use Rattle.texts.specs.Laying.{Starts}
 use Rattle.texts.specs.Refusal.{refusalLine}
-use Rattle.tidying.specs.Shown.{shownBy, textOf, shownOf}
+use Rattle.tidying.specs.Shown.{shownBy, textGives, shownOf}
 use Rattle.telling.specs.Told.{told, fits, answerBy, leftOr}
 use Rattle.captures.specs.Once.{onceBy, captureVerdict}
 use Rattle.exactly.specs.Causes.{NoRefusalWithoutCause}
@@ -64,12 +64,12 @@ shown-cause (taken array) k p e = absurd (no-line array k p e)
 shown-cause (bad j q) k p e = let t = one-line j q k p e in rw (t .0, t .1)
 
 tidy-cause : (part : ℕ) (text out : List ℕ) (r : ℕ) (out′ : List ℕ) (k p : ℕ)
-    → Starts (shownOf part text) out r out′ → take r out′ ≡ refusalLine k p → textOf part text ≡ bad k p
+    → Starts (shownOf part text) out r out′ → take r out′ ≡ refusalLine k p → textGives part text ≡ bad k p
 unfolding shownOf
 tidy-cause part text out r out′ k p x e =
-    let s = shownBy (textOf part text) in
+    let s = shownBy (textGives part text) in
     let t : take r out′ ≡ s = ap (take r) (x .shown) ∙ take-at s (drop r out) r (sym (x .count)) in
-    shown-cause (textOf part text) k p (sym t ∙ e)
+    shown-cause (textGives part text) k p (sym t ∙ e)
 
 -- The list refuses where its capture's verdict does.
 list-cause : (v : Verdict) (xs : List Placed) (k p : ℕ) → listedBy v xs ≡ refused k p → v ≡ refused k p

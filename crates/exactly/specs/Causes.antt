@@ -25,7 +25,7 @@ use Rattle.forms.specs.Reading.{bad}
 use Rattle.image.specs.Promises.{imageOf, writeVerdict, ReadsImage, WritesImage}
 use Rattle.texts.specs.Laying.{Starts}
 use Rattle.texts.specs.Refusal.{refusalLine}
-use Rattle.tidying.specs.Shown.{textOf, shownOf}
+use Rattle.tidying.specs.Shown.{textGives, shownOf}
 use Rattle.telling.specs.Told.{ReadsThrough, WritesThrough}
 use Rattle.door.specs.Promises.{ReplaysOnce}
 
@@ -46,7 +46,7 @@ pub record NoRefusalWithoutCause : Type 0 where
   -- the program writes a refusal's line only where the table has that refusal
   pub tidy : (part : ℕ) (text out : List ℕ) (r : ℕ) (out′ : List ℕ) (k p : ℕ)
       → Starts (shownOf part text) out r out′ → take r out′ ≡ refusalLine k p
-      → textOf part text ≡ bad k p
+      → textGives part text ≡ bad k p
   -- through the door the reply row has a number that is not 0
   pub door-replay : (part select stored : ℕ) (es ls array row numbers : List ℕ) (r : ℕ) (array′ row′ numbers′ : List ℕ) (k p : ℕ)
       → ReplaysOnce part select stored es ls array row numbers r array′ row′ numbers′ → r ≡ 1 → ¬ (k ≡ 0)

@@ -16,7 +16,7 @@ use Rattle.forms.specs.Writing.{imageText, linesLength, lengthOf, mostLength}
 use Rattle.image.specs.Promises.{imageOf, writeVerdict}
 use Rattle.texts.specs.Numbers.{decimalOf}
 use Rattle.texts.specs.Refusal.{refusalLine}
-use Rattle.tidying.specs.Shown.{textOf, shownOf}
+use Rattle.tidying.specs.Shown.{textGives, shownOf}
 use Rattle.image_cases.specs.ImageCases.{paperArray, paperText, ShownFor, P10, EmptyFor, P11}
 
 -- What is computed at a size: the text gives the image, which is written as that text, of that length, and needs that room at most.
@@ -35,7 +35,7 @@ module _ (part size : ℕ) (s : kindOf part .size ≡ size) (k : known part ≡ 
   by-text text old h = rw (k, eq-eqb (length old) (kindOf part .size) (h ∙ sym s), s)
 
   -- So does the program's.
-  by-shown : (text : List ℕ) → textOf part text ≡ readingOf intel size text
+  by-shown : (text : List ℕ) → textGives part text ≡ readingOf intel size text
   by-shown text = rw (k, s)
 
   -- The paper's image.

@@ -23,7 +23,7 @@ use Rattle.image.specs.Promises.{sized, imageBy, imageOf, writeVerdict, ReadsIm
 use Rattle.image.proofs.Sizes.{kind-most}
 use Rattle.texts.specs.Refusal.{refusalLine}
 use Rattle.texts.specs.Laying.{Starts}
-use Rattle.tidying.specs.Shown.{textOf, shownOf}
+use Rattle.tidying.specs.Shown.{textGives, shownOf}
 
 -- An array of the part's size passes the test.
 right-size : (part : ℕ) (array : List ℕ) → length array ≡ kindOf part .size → sized part (length array) ≡ true
@@ -73,7 +73,7 @@ known-by false c v array e = absurd (true≢false (cc))
 module _ (part : ℕ) (text array array′ : List ℕ) (r : Reply) (h : length array ≡ kindOf part .size)
     (w : ReadsImage intel part text array r array′) where
   -- The array that was lent decides nothing, only the part and the text.
-  text-decides : imageOf intel part text array ≡ textOf part text
+  text-decides : imageOf intel part text array ≡ textGives part text
   unfolding imageOf
   text-decides = rw (right-size part array h)
 

@@ -15,9 +15,9 @@ shownBy (taken array) = imageText intel array
 shownBy (bad k p) = refusalLine k p
 
 -- What a text gives for an array of the part's size, which the program lends (Refusal numbers, 1, 11 to 18; request 2026-01).
-abbrev pub textOf : ℕ → List ℕ → Reading
-textOf part text = imageBy (known part) true (readingOf intel (kindOf part .size) text)
+abbrev pub textGives : ℕ → List ℕ → Reading
+textGives part text = imageBy (known part) true (readingOf intel (kindOf part .size) text)
 
 -- What is written for a text as the image of the part that is named (Image files; request 2026-01).
 unfoldable pub shownOf : ℕ → List ℕ → List ℕ
-shownOf part text = shownBy (textOf part text)
+shownOf part text = shownBy (textGives part text)

@@ -1,16 +1,16 @@
 -- Laws of number words that the proofs cite. Assumes nothing.
 use Prim.Native.Nat.{ℕ, zero, suc, _+_, _*_, _-_, _^_, _<_, _≤_, min}
-use mathlib.Core.Bool.{Bool, true, false, _&&_, _||_}
+use mathlib.Core.Bool.{Bool, true, false}
 use mathlib.Core.List.{List, [], _∷_}
 use mathlib.Core.Path.{_≡_, refl, ap, sym, _∙_}
 use native.Mathlib.Omega.{arith}
 use native.Mathlib.Nat.{add-zero, zero-add, mul-zero, zero-mul, mul-one, add-mul, mul-assoc, mul-comm, pow-zero, pow-suc, le-mul-of-pos-right, min-eq-left, min-eq-right, min-le-right}
-use lib.Dec.{leb, ltb}
+use lib.Dec.{leb}
 use lib.ListN.{length, getD, take, drop, length-drop, drop-of-length-le}
 use lib.Seq.{drop-cons, drop-length, take-all}
 use borrow.Author.Tests.{leb-true, leb-false, lt-ltb, le-ltb, eq-eqb, ne-eqb}
 use Rattle.ground.proofs.Tests.{and-split}
-use Rattle.words.specs.Words.{decimalBase, hexBase, between, figureOf, allFigures, numeral, figuresValue, afterMarkBy, afterMark, isNumber, countsBy, countsAs}
+use Rattle.words.specs.Words.{decimalBase, hexBase, between, figureOf, allFigures, numeral, figuresValue, afterMark, isNumber, countsBy, countsAs}
 use Rattle.words.specs.Marks.{MarkEnds}
 
 -- A character within two others is not below the first.

@@ -59,7 +59,7 @@ afterMark (first ∷ second ∷ cs) = afterMarkBy (eqb first 0x30 && eqb second 
 unfoldable pub isNumber : List ℕ → Bool
 isNumber word = numeral decimalBase word || numeral hexBase (afterMark word)
 
--- By whether a word is decimal or hexadecimal: its value, cut to the field's largest, which no number counts as too (Programs, numbers).
+-- By whether a word is decimal or hexadecimal: its value, cut to the field's largest; what is neither counts as that (Programs, too wide).
 abbrev pub countsBy : Bool → Bool → ℕ → List ℕ → ℕ
 countsBy true hexadecimal most word = min (figuresValue decimalBase word) most
 countsBy false true most word = min (figuresValue hexBase (afterMark word)) most

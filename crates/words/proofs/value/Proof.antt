@@ -1,7 +1,6 @@
 -- `words::value` meets its contract: what the digits so far and those that are left come to, cut, is the whole's value, cut.
 use Prim.Native.Nat.{_-_, _≤_, min}
 use mathlib.Core.Path.{_≡_, _∙_}
-use native.Mathlib.Omega.{arith}
 use native.Mathlib.Nat.{min-le-right}
 use native.Mathlib.Numerals.{add-one}
 use borrow.Author.Needs.{needs}
