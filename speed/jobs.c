@@ -36,7 +36,7 @@ const struct job jobs[JOBS] = {
     {"write-blank", "write all FFh", WRITE, 4323, SMALLER, 1.0, 0, 0, NULL, 0},
     {"mix-4k", "mix, 4,096 samples", REPLAY, 4323, 4096, 0, 0, 0x60, capture_mix, 0},
     {"mix-16k", "mix, 16,384 samples", REPLAY, 4323, 16384, 0, 0, 0x60, capture_mix, 0},
-    {"mix-larger", "mix, larger part", REPLAY, 4283, 65536, 0, 0, 0x60, capture_mix, 0},
+    {"mix-larger", "mix, larger part", REPLAY, 4283, 65536, 1.0, 0.80, 0x60, capture_mix, 0},
     {"read-larger", "read 45 KB, larger part", READ, 4283, LARGER_TEXT, 0, 0, 0, NULL, 16},
     {"write-larger", "write a full larger array", WRITE, 4283, LARGER, 0, 0, 0, NULL, 1},
     {"read-none", "read no data", READ, 4323, END_LINE, 0, 0, 0, NULL, 16},
