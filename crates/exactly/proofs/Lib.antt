@@ -1,6 +1,7 @@
 pub mod Decides
 pub mod Words
 pub mod Steps
+pub mod PartFirst
 pub mod PowerUp
 pub mod Samples
 pub mod Replay

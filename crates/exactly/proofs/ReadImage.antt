@@ -13,13 +13,14 @@ use Rattle.forms.specs.Reading.{Reading, bad, textBy, readingOf}
 use Rattle.intel.specs.Intel.{intel}
 use Rattle.reader.specs.Answers.{verdictOf}
 use Rattle.image.specs.Promises.{sized, imageBy, imageOf}
-use Rattle.exactly.specs.Words.{KnownPart, ByPart, SizeOf}
+use Rattle.exactly.specs.Words.{ByPart, SizeOf}
 use Rattle.exactly.specs.Records.{WellFormed, SumsRight, TypeTaken, Gives}
 use Rattle.exactly.specs.Faults.{FirstAt, EndAt}
 use Rattle.exactly.specs.ReadImage.{TextFits, ReadImage}
 use Rattle.exactly.proofs.Decides.{holds, fails, decides-le}
-use Rattle.exactly.proofs.Words.{one-kind, size-known, size-is, decides-part, decides-size}
+use Rattle.exactly.proofs.Words.{one-kind, size-is}
 use Rattle.exactly.proofs.Steps.{step, Above, above-step, stop, stopped, past, passed, through, says-refused, says-accepted}
+use Rattle.exactly.proofs.PartFirst.{past-size, through-size, to-rest, one, five}
 use Rattle.exactly.proofs.ReadLines.{lines, twelve, thirteen, fourteen, fifteen, sixteen, seventeen, eighteen, whole-text, line-numbers, verdict-bad}
 
 steps : (a b c : Bool) (r : Reading) (n : ℕ)
@@ -44,17 +45,14 @@ module _ (part : ℕ) (text array : List ℕ) where
   abbrev verdict : Verdict
   verdict = verdictOf (imageOf intel part text array) (length text)
 
-  -- The lines, judged by the part's size and by the array's length.
+  -- The lines, judged by the part's size.
   abbrev third : Verdict
   third = verdictOf (lines (kindOf part .size) text) (length text)
 
   abbrev second : Verdict
   second = step (leb (length text) 65536) 11 third
 
-  abbrev first : Verdict
-  first = step (sized part (length array)) 5 second
-
-  by-steps : verdict ≡ step (known part) 1 first
+  by-steps : verdict ≡ step (known part) 1 (step (sized part (length array)) 5 second)
   unfolding imageOf readingOf
   by-steps = steps (known part) (sized part (length array)) (leb (length text) 65536) (lines (kindOf part .size) text) (length text)
 
@@ -65,64 +63,31 @@ module _ (part : ℕ) (text array : List ℕ) where
   above-five : Above 5 second
   above-five = above-step (leb (length text) 65536) 5 11 third (omega arith) (λ j q e. let h = above-eleven j q e in omega arith)
 
-  above-one : Above 1 first
-  above-one = above-step (sized part (length array)) 1 5 second (omega arith) (λ j q e. let h = above-five j q e in omega arith)
-
+  -- They are judged alike by the array's length.
   same-lines : SizeOf part (length array) → third ≡ verdictOf (lines (length array) text) (length text)
   same-lines s = ap (λ (n : ℕ). verdictOf (lines n text) (length text)) (sym (size-is part (length array) s))
-
-  -- What holds where a later number is the reply, and what the verdict is where the tests pass.
-  past-size : (k p : ℕ) → 5 < k → verdict ≡ refused k p → SizeOf part (length array) × (second ≡ refused k p)
-  past-size k p h e =
-      let t = past (known part) 1 k p first (omega arith) (sym by-steps ∙ e) in
-      let u = past (sized part (length array)) 5 k p second h (t .1) in
-      (decides-size part (length array) (decides-part part .yes (t .0)) .yes (u .0), u .1)
-
-  to-size : KnownPart part → verdict ≡ first
-  to-size k = by-steps ∙ passed (known part) 1 first (holds (decides-part part) k)
-
-  to-text : SizeOf part (length array) → verdict ≡ second
-  to-text s =
-      let k = size-known part (length array) s in
-      to-size k ∙ passed (sized part (length array)) 5 second (holds (decides-size part (length array) k) s)
-
-  one : (p : ℕ) → (verdict ≡ refused 1 p) ↔ ((p ≡ 0) × ¬ KnownPart part)
-  one p = (
-    λ e. let t = stop (known part) 1 p first above-one (sym by-steps ∙ e) in (t .1, decides-part part .no (t .0)),
-    λ h. by-steps ∙ stopped (known part) 1 p first (fails (decides-part part) (h .1)) (h .0),
-  )
-
-  five : (p : ℕ) → (verdict ≡ refused 5 p) ↔ ((p ≡ 0) × KnownPart part × ¬ SizeOf part (length array))
-  five p = (
-    λ e.
-        let t = past (known part) 1 5 p first (omega arith) (sym by-steps ∙ e) in
-        let k = decides-part part .yes (t .0) in
-        let u = stop (sized part (length array)) 5 p second above-five (t .1) in
-        (u .1, k, decides-size part (length array) k .no (u .0)),
-    λ h.
-        to-size (h .1)
-        ∙ stopped (sized part (length array)) 5 p second (fails (decides-size part (length array) (h .1)) (h .2)) (h .0),
-  )
 
   eleven : (p : ℕ) → (verdict ≡ refused 11 p) ↔ ((p ≡ 0) × SizeOf part (length array) × (65536 < length text))
   eleven p = (
     λ e.
-        let t = past-size 11 p (omega arith) e in
+        let t = past-size part (length array) verdict second by-steps 11 p (omega arith) e in
         let u = stop (leb (length text) 65536) 11 p third above-eleven (t .1) in
         (u .1, t .0, decides-le (length text) 65536 .no (u .0)),
-    λ h. to-text (h .1) ∙ stopped (leb (length text) 65536) 11 p third (fails (decides-le (length text) 65536) (h .2)) (h .0),
+    λ h.
+        to-rest part (length array) verdict second by-steps (h .1)
+        ∙ stopped (leb (length text) 65536) 11 p third (fails (decides-le (length text) 65536) (h .2)) (h .0),
   )
 
   -- What the lines decide.
   to-lines : TextFits part text array → verdict ≡ verdictOf (lines (length array) text) (length text)
   to-lines f =
-      to-text (f .sized)
+      to-rest part (length array) verdict second by-steps (f .sized)
       ∙ passed (leb (length text) 65536) 11 third (holds (decides-le (length text) 65536) (f .short))
       ∙ same-lines (f .sized)
 
   of-lines : (k p : ℕ) → 11 < k → verdict ≡ refused k p → TextFits part text array × (lines (length array) text ≡ bad k p)
   of-lines k p m e =
-      let t = past-size k p (omega arith) e in
+      let t = past-size part (length array) verdict second by-steps k p (omega arith) e in
       let u = past (leb (length text) 65536) 11 k p third m (t .1) in (
         record { sized = t .0; short = decides-le (length text) 65536 .yes (u .0) },
         verdict-bad (lines (length array) text) (length text) k p .0 (sym (same-lines (t .0)) ∙ u .1),
@@ -161,10 +126,9 @@ module _ (part : ℕ) (text array : List ℕ) where
       × ((q e : ℕ) × EndAt (length array) text q e × (n ≡ length text) × (length text ≤ e + 1)))
   taken-text n = (
     λ g.
-        let t = through (known part) 1 n first (sym by-steps ∙ g) in
-        let u = through (sized part (length array)) 5 n second (t .1) in
-        let v = through (leb (length text) 65536) 11 n third (u .1) in
-        let s = decides-size part (length array) (decides-part part .yes (t .0)) .yes (u .0) in
+        let t = through-size part (length array) verdict second by-steps n g in
+        let v = through (leb (length text) 65536) 11 n third (t .1) in
+        let s = t .0 in
         let x = whole-text (length array) text n .0 (sym (same-lines s) ∙ v .1) in
         (record { sized = s; short = decides-le (length text) 65536 .yes (v .0) }, x),
     λ h. to-lines (h .0) ∙ whole-text (length array) text n .1 (h .1),
@@ -185,8 +149,10 @@ module _ (part : ℕ) (text array : List ℕ) where
 pub read-image : ReadImage
 read-image =
     record {
-      one = λ part text array p r array′ x. Iff·trans (says-refused r _ 1 p (x .reply)) (one part text array p);
-      five = λ part text array p r array′ x. Iff·trans (says-refused r _ 5 p (x .reply)) (five part text array p);
+      one = λ part text array p r array′ x.
+          Iff·trans (says-refused r _ 1 p (x .reply)) (one part (length array) _ _ (by-steps part text array) (above-five part text array) p);
+      five = λ part text array p r array′ x.
+          Iff·trans (says-refused r _ 5 p (x .reply)) (five part (length array) _ _ (by-steps part text array) (above-five part text array) p);
       eleven = λ part text array p r array′ x. Iff·trans (says-refused r _ 11 p (x .reply)) (eleven part text array p);
       twelve = λ part text array p r array′ x.
           Iff·trans (says-refused r _ 12 p (x .reply)) (by-lines part text array 12 p (omega arith) (twelve (length array) text p));

@@ -1,11 +1,11 @@
 -- Refusals 1, 5 and 19 of writing an image, exactly when. Assumes nothing.
-use Prim.Native.Nat.{ℕ, _/_, _≤_, _<_}
+use Prim.Native.Nat.{ℕ, _≤_, _<_}
 use mathlib.Core.Bool.{Bool, true, false}
 use mathlib.Core.List.{List}
 use mathlib.Core.Logic.{_↔_, _⊎_, inl, inr, Iff·trans}
 use mathlib.Core.Path.{_≡_, refl, ap, sym, _∙_}
 use native.Mathlib.Omega.{arith}
-use lib.Dec.{eqb, leb}
+use lib.Dec.{leb}
 use lib.ListN.{length}
 use Rattle.ground.specs.Kind.{kindOf, known}
 use Rattle.ground.specs.Verdict.{Verdict, accepted, refused}
@@ -17,9 +17,10 @@ use Rattle.intel.specs.Intel.{intel}
 use Rattle.image.specs.Promises.{sized, writeBy, writeVerdict}
 use Rattle.exactly.specs.Words.{SmallPart, LargePart, KnownPart, ByPart, SizeOf}
 use Rattle.exactly.specs.WriteImage.{WriteImage}
-use Rattle.exactly.proofs.Decides.{Decides, holds, fails, decides-le}
-use Rattle.exactly.proofs.Words.{small-size, large-size, size-known, decides-part, decides-size}
-use Rattle.exactly.proofs.Steps.{step, Above, above-accepted, above-step, stop, stopped, past, passed, through, says-refused, says-accepted}
+use Rattle.exactly.proofs.Decides.{holds, fails, decides-le}
+use Rattle.exactly.proofs.Words.{small-size, large-size, size-known}
+use Rattle.exactly.proofs.Steps.{step, Above, above-accepted, above-step, stop, stopped, passed, through, says-refused, says-accepted}
+use Rattle.exactly.proofs.PartFirst.{past-size, through-size, to-rest, one, five}
 
 steps : (a b c : Bool) (n : ℕ) → writeBy a b c n ≡ step a 1 (step b 5 (step c 19 (accepted n)))
 steps false b c n = refl
@@ -60,61 +61,22 @@ module _ (part : ℕ) (array out : List ℕ) where
   abbrev room : Verdict
   room = step (leb most (length out)) 19 (accepted (lengthOf intel array))
 
-  abbrev size : Verdict
-  size = step (sized part (length array)) 5 room
-
-  by-steps : writeVerdict intel part array out ≡ step (known part) 1 size
+  by-steps : writeVerdict intel part array out ≡ step (known part) 1 (step (sized part (length array)) 5 room)
   unfolding writeVerdict
   by-steps = steps (known part) (sized part (length array)) (leb most (length out)) (lengthOf intel array)
 
   above-five : Above 5 room
   above-five = above-step (leb most (length out)) 5 19 (accepted (lengthOf intel array)) (omega arith) (above-accepted 5 (lengthOf intel array))
 
-  above-one : Above 1 size
-  above-one = above-step (sized part (length array)) 1 5 room (omega arith) (λ j q e. let h = above-five j q e in omega arith)
-
-  -- What holds where a later number is the reply, and what the verdict is where the tests pass.
-  past-size : (k p : ℕ) → 5 < k → writeVerdict intel part array out ≡ refused k p → SizeOf part (length array) × (room ≡ refused k p)
-  past-size k p h e =
-      let t = past (known part) 1 k p size (omega arith) (sym by-steps ∙ e) in
-      let u = past (sized part (length array)) 5 k p room h (t .1) in
-      (decides-size part (length array) (decides-part part .yes (t .0)) .yes (u .0), u .1)
-
-  to-size : KnownPart part → writeVerdict intel part array out ≡ size
-  to-size k = by-steps ∙ passed (known part) 1 size (holds (decides-part part) k)
-
-  to-room : SizeOf part (length array) → writeVerdict intel part array out ≡ room
-  to-room s =
-      let k = size-known part (length array) s in
-      to-size k ∙ passed (sized part (length array)) 5 room (holds (decides-size part (length array) k) s)
-
-  one : (p : ℕ) → (writeVerdict intel part array out ≡ refused 1 p) ↔ ((p ≡ 0) × ¬ KnownPart part)
-  one p = (
-    λ e. let t = stop (known part) 1 p size above-one (sym by-steps ∙ e) in (t .1, decides-part part .no (t .0)),
-    λ h. by-steps ∙ stopped (known part) 1 p size (fails (decides-part part) (h .1)) (h .0),
-  )
-
-  five : (p : ℕ) → (writeVerdict intel part array out ≡ refused 5 p) ↔ ((p ≡ 0) × KnownPart part × ¬ SizeOf part (length array))
-  five p = (
-    λ e.
-        let t = past (known part) 1 5 p size (omega arith) (sym by-steps ∙ e) in
-        let k = decides-part part .yes (t .0) in
-        let u = stop (sized part (length array)) 5 p room above-five (t .1) in
-        (u .1, k, decides-size part (length array) k .no (u .0)),
-    λ h.
-        to-size (h .1)
-        ∙ stopped (sized part (length array)) 5 p room (fails (decides-size part (length array) (h .1)) (h .2)) (h .0),
-  )
-
   nineteen : (p : ℕ) → (writeVerdict intel part array out ≡ refused 19 p)
       ↔ ((p ≡ 0) × SizeOf part (length array) × ByPart part (length out < 11276) (length out < 45068))
   nineteen p = (
     λ e.
-        let t = past-size 19 p (omega arith) e in
+        let t = past-size part (length array) (writeVerdict intel part array out) room by-steps 19 p (omega arith) e in
         let u = stop (leb most (length out)) 19 p (accepted (lengthOf intel array)) (above-accepted 19 (lengthOf intel array)) (t .1) in
         (u .1, t .0, room-short part (length out) (size-known part (length array) (t .0)) (decides-le most (length out) .no (u .0))),
     λ h.
-        to-room (h .1)
+        to-rest part (length array) (writeVerdict intel part array out) room by-steps (h .1)
         ∙ stopped (leb most (length out)) 19 p (accepted (lengthOf intel array)) (fails (decides-le most (length out)) (short-room part (length out) (h .2))) (h .0),
   )
 
@@ -124,19 +86,17 @@ module _ (part : ℕ) (array out : List ℕ) where
       × ByPart part (11276 ≤ length out) (45068 ≤ length out))
   taken n = (
     λ e.
-        let t = through (known part) 1 n size (sym by-steps ∙ e) in
-        let k = decides-part part .yes (t .0) in
-        let u = through (sized part (length array)) 5 n room (t .1) in
-        let v = through (leb most (length out)) 19 n (accepted (lengthOf intel array)) (u .1) in
+        let t = through-size part (length array) (writeVerdict intel part array out) room by-steps n e in
+        let v = through (leb most (length out)) 19 n (accepted (lengthOf intel array)) (t .1) in
         let w : accepted (lengthOf intel array) ≡ accepted n = v .1 in
         let m : n ≡ lengthOf intel array = cc in (
           m ∙ sym (length-image intel intel-measured array),
-          decides-size part (length array) k .yes (u .0),
-          room-enough part (length out) k (decides-le most (length out) .yes (v .0)),
+          t .0,
+          room-enough part (length out) (size-known part (length array) (t .0)) (decides-le most (length out) .yes (v .0)),
         ),
     λ h.
         let m : lengthOf intel array ≡ n = sym (h .0 ∙ length-image intel intel-measured array) in
-        to-room (h .1)
+        to-rest part (length array) (writeVerdict intel part array out) room by-steps (h .1)
         ∙ passed (leb most (length out)) 19 (accepted (lengthOf intel array)) (holds (decides-le most (length out)) (enough-room part (length out) (h .2)))
         ∙ ap accepted m,
   )
@@ -155,8 +115,10 @@ module _ (part : ℕ) (array out : List ℕ) where
 pub write-image : WriteImage
 write-image =
     record {
-      one = λ part array out p r out′ x. Iff·trans (says-refused r _ 1 p (x .reply)) (one part array out p);
-      five = λ part array out p r out′ x. Iff·trans (says-refused r _ 5 p (x .reply)) (five part array out p);
+      one = λ part array out p r out′ x.
+          Iff·trans (says-refused r _ 1 p (x .reply)) (one part (length array) _ _ (by-steps part array out) (above-five part array out) p);
+      five = λ part array out p r out′ x.
+          Iff·trans (says-refused r _ 5 p (x .reply)) (five part (length array) _ _ (by-steps part array out) (above-five part array out) p);
       nineteen = λ part array out p r out′ x. Iff·trans (says-refused r _ 19 p (x .reply)) (nineteen part array out p);
       accepted = λ part array out n r out′ x. Iff·trans (says-accepted r _ n (x .reply)) (taken part array out n);
       no-other = λ part array out k p r out′ x e. no-other part array out k p (says-refused r _ k p (x .reply) .0 e);

@@ -2,7 +2,6 @@
 // in any form of record, at Intel's.
 use formats::Format;
 use ground::kinds;
-ghost use mathlib.Core.Path.{_≡_};
 ghost use Prim.Native.Nat.{_≤_};
 ghost use lib.ListN.{length, replicate};
 ghost use Rattle.ground.specs.Numbers.{smallSize, largeSize};
