@@ -10,7 +10,7 @@ fixed-form-requires : tie.Need-fixed-form-requires
 fixed-form-requires c κs = search needs
 
 returns : tie.Need-returns
-returns c = rw (← c .before .before .part-named .ensures) (c .fixed-form .ensures)
+returns c = rw (c .before .before .part-named .ensures) at (c .fixed-form .ensures)
 
 pub by-word-spec : {M : Type 1} → statement M
 by-word-spec = tie.close (tie.spec part-named-requires fixed-form-requires returns)
