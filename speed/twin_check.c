@@ -146,7 +146,7 @@ static void p5(uint16_t part, uint16_t page)
     expect(byte_read(m.length) == 0x88, "P5 counter at 8");
 }
 
-static void p6(void)
+static void p6(uint16_t part)
 {
     static const struct { uint8_t byte; bool answered; } cases[] = {{0xA0, true}, {0xA1, true}, {0xA2, false}, {0xA8, false}};
     for (unsigned i = 0; i < 4; i++) {
@@ -155,7 +155,7 @@ static void p6(void)
         master_end_reset(&m);
         master_start(&m);
         master_send(&m, cases[i].byte);
-        replay(&m, 4323, 0x60);
+        replay(&m, part, 0x60);
         expect(acknowledged(m.length) == cases[i].answered, "P6");
     }
 }
@@ -183,7 +183,7 @@ static void p7_p8(uint16_t part)
     expect(register_after(part, 0x9A) == 0x9A, "WPEN, WD and BP are taken from the third byte");
 }
 
-static void p9(void)
+static void p9(uint16_t part)
 {
     struct master m;
     begin(&m);
@@ -194,7 +194,7 @@ static void p9(void)
     master_stop(&m);
     master_idle(&m, 1, 4999);
     master_idle(&m, 1, 1);
-    replay(&m, 4323, 0x60);
+    replay(&m, part, 0x60);
     expect(answers[m.length - 2] & WRITING, "P9 4,999");
     expect(!(answers[m.length - 1] & WRITING), "P9 5,000");
 }
@@ -281,15 +281,17 @@ int main(void)
         p5(smaller, 0x0080);
         p5(larger, 0x0080);
         p5(larger, 0x3FC0);
+        p6(smaller);
+        p6(larger);
         p7_p8(smaller);
         p7_p8(larger);
+        p9(smaller);
+        p9(larger);
         reads_go_on(smaller, 0x003F, 0x0040);
         reads_go_on(smaller, 0x0FFF, 0x0000);
         reads_go_on(larger, 0x0FFF, 0x1000);
         reads_go_on(larger, 0x3FFF, 0x0000);
     }
-    p6();
-    p9();
     wel_low();
     rwel_needs_wel();
     refusals_by_size();

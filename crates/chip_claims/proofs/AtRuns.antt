@@ -3,7 +3,8 @@ use mathlib.Core.Bool.{true}
 use mathlib.Core.List.{List}
 use mathlib.Core.Path.{_≡_, refl, _∙_}
 use lib.ListN.{take}
-use Rattle.ground.specs.Numbers.{x4323}
+use Prim.Native.Nat.{ℕ}
+use Rattle.ground.specs.Numbers.{x4323, x4283}
 use Rattle.ground.specs.Kind.{kindOf}
 use Rattle.ground.specs.Verdict.{meant}
 use Rattle.ground.specs.declared.Reply.the-variants.{Accepted}
@@ -15,16 +16,20 @@ use Rattle.runs.specs.Runs.{Taken}
 use Rattle.runs.proofs.Opened.{opened}
 use Rattle.reachable.specs.Reachable.{Reachable}
 use Rattle.demand3.specs.Sending.{nothing, sends, sentOf}
-use Rattle.demand3.specs.Differ.{fetchesNone, FullLoad, sentAfter}
-use Rattle.demand3_runs.specs.Occurs.{spot, left, right, readIt, unsetWrite, setWrite, cutRead, Occurs}
-use Rattle.chip_claims.specs.Demand3.{Compared, ReplayDemand3, PowerDemand3, ComputedForm}
+use Rattle.part.specs.declared.state.State.{State}
+use Rattle.demand3.specs.Differ.{fetchesNone, EqualBut, FullLoad, sentAfter}
+use Rattle.demand3_runs.specs.Occurs.{spot, left, right, farSpot, farLeft, farRight, readAt, readIt, unsetWrite, setWrite, cutRead, Occurs}
+use Rattle.chip_claims.specs.Demand3.{over, Compared, ReplayDemand3, PowerDemand3, ComputedForm}
 use Rattle.chip_claims.specs.States.{HandedOut, FitAgain, CutAnywhere}
 use Rattle.chip_claims.specs.AtRuns.{rowFor, Outcome, AtRuns}
 
 -- The load at power-up is whole.
-left-load : FullLoad (left .state)
+power-load : (part stored : ℕ) → FullLoad (poweredUp part 0 stored)
 unfolding poweredUp
-left-load = record { bytes = refl; marks = refl }
+power-load part stored = record { bytes = refl; marks = refl }
+
+left-load : FullLoad (left .state)
+left-load = power-load x4323 0
 
 -- A part of the runs has just been powered up.
 left-reachable : HandedOut → Occurs → Reachable left
@@ -33,14 +38,22 @@ left-reachable handed o =
     handed .power x4323 0 0 0 (left .array) (record { reply = Accepted 0; state = left .state })
     (record { reply = refl; state = refl }) refl (o .size) .1
 
--- Two replays of a capture that is taken.
-compares : ReplayDemand3 → Occurs → (c : Capture) → Taken c left → (r q : Replayed) (xs ys said said₂ : List _) → Outcome c left r xs said
+-- Two replays of a capture that is taken, of one state over two arrays.
+module _ (d : ReplayDemand3) (a : ℕ) (s : State) (xs ys : List ℕ) (load : FullLoad s) (arrays : EqualBut a xs ys) (c : Capture)
+    (t : Taken c (over s xs)) (r q : Replayed) (xs′ ys′ said said₂ : List ℕ) where
+  two-replays : Outcome c (over s xs) r xs′ said → Outcome c (over s ys) q ys′ said₂
+      → Compared a s xs ys (c .times) (c .levels) r q xs′ ys′ said said₂
+  two-replays x y =
+      let v = d .verdict a s xs ys (c .times) (c .levels) (rowFor c) arrays in
+      d .compared a s xs ys (c .times) (c .levels) (rowFor c) (rowFor c) _ _ r q xs′ ys′ said said₂ load arrays
+      (record { judged = t; replays = x }) (record { judged = v ∙ t; replays = y })
+
+-- Of the two parts of the runs.
+compares : ReplayDemand3 → Occurs → (c : Capture) → Taken c left → (r q : Replayed) (xs ys said said₂ : List ℕ) → Outcome c left r xs said
     → Outcome c right q ys said₂
     → Compared spot (left .state) (left .array) (right .array) (c .times) (c .levels) r q xs ys said said₂
 compares d o c t r q xs ys said said₂ x y =
-    let v = d .verdict spot (left .state) (left .array) (right .array) (c .times) (c .levels) (rowFor c) (o .arrays) in
-    d .compared spot (left .state) (left .array) (right .array) (c .times) (c .levels) (rowFor c) (rowFor c) _ _ r q xs ys said said₂
-    left-load (o .arrays) (record { judged = t; replays = x }) (record { judged = v ∙ t; replays = y })
+    two-replays d spot (left .state) (left .array) (right .array) left-load (o .arrays) c t r q xs ys said said₂ x y
 
 -- The first 100 samples of the read fetch nothing from the address.
 not-fetched : fetchesNone spot (take 100 (readIt .times)) (take 100 (readIt .levels)) left ≡ true
@@ -58,6 +71,9 @@ unfolding kindOf
 runs-from o replay3 power3 form handed fit cut =
     record {
       read = λ r q xs ys said said₂ x y. compares replay3 o readIt (o .read .taken) r q xs ys said said₂ x y .reached 126 (o .read .reached);
+      far = λ r q xs ys said said₂ x y.
+          two-replays replay3 farSpot (farLeft .state) (farLeft .array) (farRight .array) (power-load x4283 0x08) (o .far) (readAt farSpot)
+          (o .far-read .taken) r q xs ys said said₂ x y .reached 126 (o .far-read .reached);
       write = λ r q xs ys said said₂ x y.
           compares replay3 o setWrite (o .write .taken) r q xs ys said said₂ x y .covered 230 (o .write .covered);
       powered = power3 .alike spot left (right .array) (readIt .times) (readIt .levels) (left-reachable handed o) (o .arrays);

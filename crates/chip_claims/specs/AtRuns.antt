@@ -16,7 +16,7 @@ use Rattle.reachable.specs.Reachable.{Lowers}
 use Rattle.demand2.specs.Demand2.{Joined}
 use Rattle.demand3.specs.Sending.{bitFrom}
 use Rattle.demand3.specs.Differ.{SplitAt, Unfetched, TwoParts}
-use Rattle.demand3_runs.specs.Occurs.{spot, left, right, readIt, unsetWrite, setWrite, cutRead, holdsOf}
+use Rattle.demand3_runs.specs.Occurs.{spot, left, right, farSpot, farLeft, farRight, readAt, readIt, unsetWrite, setWrite, cutRead, holdsOf}
 use Rattle.chip_claims.specs.Demand3.{over}
 
 -- An answer row for a capture, before the replay (What goes in and what comes out).
@@ -27,11 +27,13 @@ rowFor c = replicate (length (c .levels)) 0
 abbrev pub Outcome : Capture → Part → Replayed → List ℕ → List ℕ → Type 0
 Outcome c p r array′ row′ = Replays (p .state) (c .times) (c .levels) (p .array) (rowFor c) r array′ row′
 
--- Replays of the read differ first at sample 126, in SDA alone; replays of the write come to the same; the read in two pieces is the read; from
+-- Replays of the read differ first at sample 126, in SDA alone, and so they do above 0FFFh of an X4283; replays of the write come to the same; the read in two pieces is the read; from
 -- power-up the two parts are alike; and if the part holds SDA low where the read is cut off after its third bit, it acknowledges or sends a 0
 -- (demand 3).
 pub record AtRuns : Type 0 where
   pub read : (r q : Replayed) (xs ys said said₂ : List ℕ) → Outcome readIt left r xs said → Outcome readIt right q ys said₂
+      → SplitAt 126 said said₂
+  pub far : (r q : Replayed) (xs ys said said₂ : List ℕ) → Outcome (readAt farSpot) farLeft r xs said → Outcome (readAt farSpot) farRight q ys said₂
       → SplitAt 126 said said₂
   pub write : (r q : Replayed) (xs ys said said₂ : List ℕ) → Outcome setWrite left r xs said → Outcome setWrite right q ys said₂
       → (said ≡ said₂) × (r .state ≡ q .state) × (xs ≡ ys)

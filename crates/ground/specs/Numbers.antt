@@ -1,4 +1,4 @@
--- The numbers of document 01 that stand alone, each named once; refusal numbers and control bytes stand in their tables.
+-- The numbers of document 01 and of its requests that stand alone, each named once; refusal numbers and control bytes stand in their tables.
 use Prim.Native.Nat.{ℕ}
 
 -- Microseconds that a nonvolatile write takes (Bytes on the wire, stop; Control register, RWEL high).

@@ -4,7 +4,7 @@ use formats::Format;
 use ground::kinds;
 ghost use Prim.Native.Nat.{_≤_};
 ghost use lib.ListN.{length, replicate};
-ghost use Rattle.ground.specs.Numbers.{smallSize, largeSize};
+ghost use Rattle.ground.specs.Numbers.{largeSize};
 ghost use Rattle.cells.specs.Cells.{notGiven};
 ghost use Rattle.reader.specs.Parts.{ReadsInto};
 ghost use Rattle.intel.specs.Intel.{intel};
@@ -13,46 +13,29 @@ ghost use Rattle.image.specs.Promises.{ReadsImage, WritesImage};
 pub use ground::Reply;
 
 // The sizes of the smaller and the larger kind of part.
-const SMALLER: usize = kinds::SMALL_SIZE as usize;
+const SMALL: usize = kinds::SMALL_SIZE as usize;
 
-pub const LARGEST: usize = kinds::LARGE_SIZE as usize;
+pub const LARGE: usize = kinds::LARGE_SIZE as usize;
 
 // The longest fixed form of the larger kind's array in Intel's form.
-pub const LONGEST: usize = intel_rows::ROW_LENGTH * (LARGEST / forms::ROW) + intel_rows::END_LENGTH;
+pub const LONGEST: usize = intel_rows::ROW_LENGTH * (LARGE / forms::ROW) + intel_rows::END_LENGTH;
 
 // The longest text that is read.
 pub const MOST_TEXT: usize = 65_536;
 
-// Reads a text over cells of which none is given, as many as the array has bytes. There is room for the cells of the smaller kind.
-fn read_small(format: Format, text: &[u8], array: &mut [u8]) -> Reply
-    requires { ⌜ length (now text) ≤ 65536 ⌝ }
-    requires { ⌜ length (now array) ≤ smallSize ⌝ }
-    ensures { λ r. ⌜ ReadsInto (formOf format) (now (text .entry)) (replicate (length (now (array .entry))) notGiven) (now (array .entry)) r (now (array .exit)) ⌝ }
-{
-    let mut cells = [cells::NOT_GIVEN; SMALLER];
-    reader::read_over(format, text, &mut cells, array)
-}
-
-// The same, with room for the cells of the larger kind.
-fn read_large(format: Format, text: &[u8], array: &mut [u8]) -> Reply
-    requires { ⌜ length (now text) ≤ 65536 ⌝ }
-    requires { ⌜ length (now array) ≤ largeSize ⌝ }
-    ensures { λ r. ⌜ ReadsInto (formOf format) (now (text .entry)) (replicate (length (now (array .entry))) notGiven) (now (array .entry)) r (now (array .exit)) ⌝ }
-{
-    let mut cells = [cells::NOT_GIVEN; LARGEST];
-    reader::read_over(format, text, &mut cells, array)
-}
-
-// The same, with as much room as the array needs.
+// Reads a text over cells of which none is given, as many as the array has bytes. Room for cells has a length that is written down, so
+// there are two: a smaller array does not pay for the larger one's.
 fn read_fresh(format: Format, text: &[u8], array: &mut [u8]) -> Reply
     requires { ⌜ length (now text) ≤ 65536 ⌝ }
     requires { ⌜ length (now array) ≤ largeSize ⌝ }
     ensures { λ r. ⌜ ReadsInto (formOf format) (now (text .entry)) (replicate (length (now (array .entry))) notGiven) (now (array .entry)) r (now (array .exit)) ⌝ }
 {
-    if array.len() <= SMALLER {
-        return read_small(format, text, array);
+    if array.len() <= SMALL {
+        let mut cells = [cells::NOT_GIVEN; SMALL];
+        return reader::read_over(format, text, &mut cells, array);
     }
-    read_large(format, text, array)
+    let mut cells = [cells::NOT_GIVEN; LARGE];
+    reader::read_over(format, text, &mut cells, array)
 }
 
 // Reads an image of a form into the array of a part, or refuses it with 1, 5 or 11 to 18 and leaves the array alone.

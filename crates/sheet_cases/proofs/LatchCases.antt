@@ -3,7 +3,7 @@ use mathlib.Core.Path.{refl}
 use Rattle.runs.proofs.Opened.{opened}
 use Rattle.sheet_cases.specs.LatchCases.{S6, S7, S8, S9}
 
--- S6: low VCC between 02h and a page write, on both parts.
+-- S6: low VCC between 02h and a page write, with RESET low and high.
 pub s6 : S6 4323 2 3 7 × S6 4325 0 1 5
 unfolding opened
 s6 = (

@@ -21,9 +21,9 @@ s3 = record { taken = refl; line = refl; counter = refl }
 -- S25: places of a larger part.
 pub s25 : S25 4283
 unfolding opened
-s25 = record { taken = (refl, refl); first = refl; second = refl; last = refl; beyond = refl; latch = refl }
+s25 = record { taken = (refl, refl); accepted = (refl, refl, refl); first = refl; second = refl; last = refl; beyond = refl; latch = refl }
 
 -- S26: reads across 0FFFh and across the end of a larger part.
 pub s26 : S26 4285
 unfolding opened
-s26 = record { taken = refl; on = refl; around = refl; counter = refl }
+s26 = record { taken = (refl, refl); on = refl; around = refl; counter = refl }

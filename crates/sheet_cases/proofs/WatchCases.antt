@@ -20,7 +20,7 @@ s4 =
       );
     }
 
--- S5: a watchdog that runs out, on both parts.
+-- S5: a watchdog that runs out, with RESET low and high.
 pub s5 : S5 4323 1 3 × S5 4325 3 1
 unfolding opened
 s5 = (

@@ -71,7 +71,8 @@ farWritten place = replicate place 0xFF ++ 0x5A ∷ replicate (0x3FFF - place) 0
 -- Of a larger part 0FFFh and 1FFFh are two places, 3FFFh is the last, and so is 7FFFh by its low 14 bits; 02h sent to 0FFFh sets no latch
 -- (Bytes on the wire, write; request 2026-01).
 pub record S25 (part : ℕ) : Type 0 where
-  pub taken : AcceptedAt (blankPart part 0) (written 0x7FFF) × AcceptedAt (blankPart part 0) latchless
+  pub taken : AcceptedAt (blankPart part 0) (written 0x0FFF) × AcceptedAt (blankPart part 0) (written 0x1FFF)
+  pub accepted : AcceptedAt (blankPart part 0) (written 0x3FFF) × AcceptedAt (blankPart part 0) (written 0x7FFF) × AcceptedAt (blankPart part 0) latchless
   pub first : partAt (blankPart part 0) (written 0x0FFF) .array ≡ farWritten 0x0FFF
   pub second : partAt (blankPart part 0) (written 0x1FFF) .array ≡ farWritten 0x1FFF
   pub last : partAt (blankPart part 0) (written 0x3FFF) .array ≡ farWritten 0x3FFF
@@ -84,7 +85,7 @@ fourFar part = holding part 0 ((0x11 ∷ replicate 4094 0xFF) ++ (0xA5 ∷ 0x3C 
 
 -- Of a larger part a read from 0FFFh goes on at 1000h, and one from 3FFFh at 0000h (Bytes on the wire, read; request 2026-01).
 pub record S26 (part : ℕ) : Type 0 where
-  pub taken : AcceptedAt (fourFar part) (twoFrom 0x3FFF)
+  pub taken : AcceptedAt (fourFar part) (twoFrom 0x0FFF) × AcceptedAt (fourFar part) (twoFrom 0x3FFF)
   pub on : clockedBits (lastAnswers 57 (answersAt (fourFar part) (twoFrom 0x0FFF)))
       ≡ 1 ∷ 0 ∷ 1 ∷ 0 ∷ 0 ∷ 1 ∷ 0 ∷ 1 ∷ 1 ∷ 0 ∷ 0 ∷ 1 ∷ 1 ∷ 1 ∷ 1 ∷ 0 ∷ 0 ∷ 1 ∷ 1 ∷ []
   pub around : clockedBits (lastAnswers 57 (answersAt (fourFar part) (twoFrom 0x3FFF)))

@@ -1,6 +1,5 @@
 // Runs the files that its arguments name through the function of the program `tidy`, and writes a line with each file's name before
 // what is written for it. An argument that is a number names no file but the part of the files after it; before the first it is 4323.
-use ground::kinds;
 use libc::STDOUT_FILENO;
 
 // Where the program stands after an argument: the part of the next file, and whether it goes on.
@@ -63,7 +62,7 @@ fn take_argument(part: u16, position: usize) -> Turn {
 fn main() {
     let count = os::arg_count();
     let mut turn = Turn {
-        part: kinds::X4323,
+        part: words::LEFT_OUT,
         goes_on: true,
     };
     let mut position = 1;

@@ -59,7 +59,7 @@ fn put_within(part: u16, text: &[u8], array: &mut [u8], out: &mut [u8]) -> usize
 pub fn fixed_form(part: u16, text: &[u8], out: &mut [u8; image::LONGEST]) -> usize
     ensures { λ r. ⌜ Starts (shownOf part (now (text .entry))) (now (out .entry)) r (now (out .exit)) ⌝ }
 {
-    let mut array = [0u8; image::LARGEST];
+    let mut array = [0u8; image::LARGE];
     put_within(part, text, &mut array, out)
 }
 

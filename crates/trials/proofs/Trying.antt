@@ -7,6 +7,7 @@ use lib.ListN.{length, replicate}
 use Rattle.part.specs.declared.state.State.{State}
 use Rattle.power.specs.declared.Replayed.{Replayed}
 use Rattle.ground.specs.declared.Reply.the-variants.{Accepted, Refused}
+use Rattle.ground.specs.Numbers.{x4323}
 use Rattle.ground.specs.Verdict.{Verdict, accepted, refused, meant}
 use Rattle.power.specs.Promises.{PowersUp}
 use Rattle.power.specs.Power.{powerState, poweredUp}
@@ -47,7 +48,7 @@ module _ (h : Header) (part select stored : ℕ) (up : Replayed)
   unfolding meant triedOf
   tries-refused k q es ls array row told =
       let v : upOf h ≡ refused k q = up-verdict (refused k q) (rw told) in
-      let at : up .state ≡ poweredUp 4323 0 0 = up-state (refused k q) (rw told) in
+      let at : up .state ≡ poweredUp x4323 0 0 = up-state (refused k q) (rw told) in
       record { ran = rw v; last = rw (v, told, at) }
 
 -- What a case leaves, with the bytes that open and close its reply, is the answer to it.

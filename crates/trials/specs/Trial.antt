@@ -5,6 +5,7 @@ use mathlib.Core.List.{List}
 use mathlib.Core.Path.{_≡_}
 use lib.ListN.{length, replicate}
 use Rattle.part.specs.declared.state.State.{State}
+use Rattle.ground.specs.Numbers.{x4323}
 use Rattle.ground.specs.Verdict.{Verdict, accepted, refused}
 use Rattle.refusals.specs.Refusals.{powerOf}
 use Rattle.power.specs.Power.{poweredUp}
@@ -33,7 +34,7 @@ ranBy (refused k p) = false
 -- What a case leaves: a refused power-up leaves the rows alone, else they are replayed over a blank answer row.
 abbrev pub triedBy : Verdict → Header → List ℕ → List ℕ → List ℕ → List ℕ → Round
 triedBy (accepted n) h es ls array row = timesOf (h .times) (presetState h) es ls array (replicate (length row) blank)
-triedBy (refused k p) h es ls array row = record { verdict = refused k p; part = record { state = poweredUp 4323 0 0; array = array }; row = row }
+triedBy (refused k p) h es ls array row = record { verdict = refused k p; part = record { state = poweredUp x4323 0 0; array = array }; row = row }
 
 -- What a case leaves.
 unfoldable pub triedOf : Header → List ℕ → List ℕ → List ℕ → List ℕ → Round

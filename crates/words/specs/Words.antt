@@ -1,4 +1,5 @@
--- The words of a command line as numbers (request 2026-01, programs take it as an argument).
+-- The words of a command line as numbers (request 2026-01, programs take it as an argument). How they are read is the row "2026-01,
+-- arguments" of docs/DECISIONS.md.
 use Prim.Native.Nat.{ℕ, _+_, _*_, _-_, _^_, min}
 use mathlib.Core.Bool.{Bool, true, false, _&&_, _||_}
 use mathlib.Core.List.{List, [], _∷_}
@@ -6,66 +7,66 @@ use lib.Dec.{leb, ltb, eqb}
 use lib.ListN.{length}
 use Rattle.ground.specs.Numbers.{x4323}
 
--- How many values a digit of a decimal number has (Programs, numbers by position, decimal).
+-- How many values a digit of a decimal number has (2026-01, arguments: numbers by position, decimal).
 abbrev pub decimalBase : ℕ
 decimalBase = 10
 
--- The same of a hexadecimal number; as a digit's value it stands for no digit (Programs, or hexadecimal after `0x`).
+-- The same of a hexadecimal number; as a digit's value it stands for no digit (2026-01, arguments: or hexadecimal after `0x`).
 abbrev pub hexBase : ℕ
 hexBase = 16
 
--- Whether a character lies between two others, both included (Programs, numbers by position).
+-- Whether a character lies between two others, both included (2026-01, arguments: numbers by position).
 abbrev pub between : ℕ → ℕ → ℕ → Bool
 between low high c = leb low c && leb c high
 
--- 0 to 9 count nought to nine, A to F and a to f ten to fifteen; any other character is no digit (Programs, either case).
+-- 0 to 9 count nought to nine, A to F and a to f ten to fifteen; any other character is no digit (2026-01, arguments: either case).
 abbrev pub figureBy : Bool → Bool → Bool → ℕ → ℕ
 figureBy true upper lower c = c - 0x30
 figureBy false true lower c = c - 0x41 + decimalBase
 figureBy false false true c = c - 0x61 + decimalBase
 figureBy false false false c = hexBase
 
--- The value of a character as a digit (Programs, digits in either case).
+-- The value of a character as a digit (2026-01, arguments: digits in either case).
 unfoldable pub figureOf : ℕ → ℕ
 figureOf c = figureBy (between 0x30 0x39 c) (between 0x41 0x46 c) (between 0x61 0x66 c) c
 
--- Whether each of the characters is a digit in a base (Programs, no sign: no other character is taken).
+-- Whether each of the characters is a digit in a base (2026-01, arguments: no sign: no other character is taken).
 abbrev pub allFigures : ℕ → List ℕ → Bool
 allFigures base [] = true
 allFigures base (c ∷ cs) = ltb (figureOf c) base && allFigures base cs
 
--- Whether characters are a number in a base: at least one, and digits all (Programs, numbers by position).
+-- Whether characters are a number in a base: at least one, and digits all (2026-01, arguments: numbers by position).
 unfoldable pub numeral : ℕ → List ℕ → Bool
 numeral base [] = false
 numeral base (c ∷ cs) = allFigures base (c ∷ cs)
 
--- Its value: each digit counts as often as the base's power by how many digits follow it (Programs, numbers by position).
+-- Its value: each digit counts as often as the base's power by how many digits follow it (2026-01, arguments: numbers by position).
 abbrev pub figuresValue : ℕ → List ℕ → ℕ
 figuresValue base [] = 0
 figuresValue base (c ∷ cs) = figureOf c * base ^ length cs + figuresValue base cs
 
--- What follows the mark of a hexadecimal word, if it has the mark (Programs, hexadecimal after `0x`).
+-- What follows the mark of a hexadecimal word, if it has the mark (2026-01, arguments: hexadecimal after `0x`).
 abbrev pub afterMarkBy : Bool → List ℕ → List ℕ
 afterMarkBy true cs = cs
 afterMarkBy false cs = []
 
--- What follows `0x` in a word; nothing where it does not begin so, nor where it begins with `0X` (Programs, after `0x`).
+-- What follows `0x` in a word; nothing where it does not begin so, nor where it begins with `0X` (2026-01, arguments: after `0x`).
 unfoldable pub afterMark : List ℕ → List ℕ
 afterMark [] = []
 afterMark (first ∷ []) = []
 afterMark (first ∷ second ∷ cs) = afterMarkBy (eqb first 0x30 && eqb second 0x78) cs
 
--- Whether a word is a number (Programs, decimal, or hexadecimal after `0x`).
+-- Whether a word is a number (2026-01, arguments: decimal, or hexadecimal after `0x`).
 unfoldable pub isNumber : List ℕ → Bool
 isNumber word = numeral decimalBase word || numeral hexBase (afterMark word)
 
--- By whether a word is decimal or hexadecimal: its value, cut to the field's largest; what is neither counts as that (Programs, too wide).
+-- By whether a word is decimal or hexadecimal: its value, cut to the field's largest; what is neither counts as that (2026-01, arguments: too wide).
 abbrev pub countsBy : Bool → Bool → ℕ → List ℕ → ℕ
 countsBy true hexadecimal most word = min (figuresValue decimalBase word) most
 countsBy false true most word = min (figuresValue hexBase (afterMark word)) most
 countsBy false false most word = most
 
--- What a word counts in a field, given the field's largest value (Programs, counts as the largest value of its field).
+-- What a word counts in a field, given the field's largest value (2026-01, arguments: counts as the largest value of its field).
 unfoldable pub countsAs : ℕ → List ℕ → ℕ
 countsAs most word = countsBy (numeral decimalBase word) (numeral hexBase (afterMark word)) most word
 

@@ -12,6 +12,9 @@ const SIXTEEN: u8 = 16;
 
 const WIDEST_PART: u32 = 65_535;
 
+// The part where no word names one.
+pub const LEFT_OUT: u16 = kinds::X4323;
+
 fn within(low: u8, high: u8, character: u8) -> bool
     ensures { λ r. ⌜ r ≡ between low high character ⌝ }
 {
@@ -131,5 +134,5 @@ pub fn part_named(given: bool, word: &[u8]) -> u16
     if given {
         return number_of(word, WIDEST_PART) as u16;
     }
-    kinds::X4323
+    LEFT_OUT
 }
