@@ -14,16 +14,16 @@ use Rattle.image_cases.specs.ImageCases.{P10, P11}
 
 -- The bench cases in one list, P1 and P5 to P9 for all four parts, S1 to S28 for those that a case tells by (Bench cases).
 pub record BenchCases : Type 0 where
-  pub p1 : P1 4323 1 3 × P1 4325 3 1 × P1 4283 1 3 × P1 4285 3 1
+  pub p1 : P1 4323 4096 1 3 × P1 4325 4096 3 1 × P1 4283 16384 1 3 × P1 4285 16384 3 1
   pub p2 : (k : Kind) → P2 k
   pub p3 : (k : Kind) → P3 k
   pub p4 : P4 4323 × P4 4325
   pub p4-larger : P4Larger 4283 × P4Larger 4285
-  pub p5 : P5 4323 × P5 4325 × P5 4283 × P5 4285
-  pub p6 : P6 4323 2 3 × P6 4325 0 1 × P6 4283 2 3 × P6 4285 0 1
-  pub p7 : P7 4323 × P7 4325 × P7 4283 × P7 4285
-  pub p8 : P8 4323 × P8 4325 × P8 4283 × P8 4285
-  pub p9 : P9 4323 7 3 × P9 4325 5 1 × P9 4283 7 3 × P9 4285 5 1
+  pub p5 : P5 4323 4096 × P5 4325 4096 × P5 4283 16384 × P5 4285 16384
+  pub p6 : P6 4323 4096 2 3 × P6 4325 4096 0 1 × P6 4283 16384 2 3 × P6 4285 16384 0 1
+  pub p7 : P7 4323 4096 × P7 4325 4096 × P7 4283 16384 × P7 4285 16384
+  pub p8 : P8 4323 4096 × P8 4325 4096 × P8 4283 16384 × P8 4285 16384
+  pub p9 : P9 4323 4096 7 3 × P9 4325 4096 5 1 × P9 4283 16384 7 3 × P9 4285 16384 5 1
   pub p10 : P10
   pub p11 : P11
   pub s1 : S1 4323

@@ -4,7 +4,7 @@ use Rattle.runs.proofs.Opened.{opened}
 use Rattle.run_cases.specs.RunCases.{P1, P5, P6, P7, P8, P9}
 
 -- P1: reset.
-pub p1 : P1 4323 1 3 × P1 4325 3 1 × P1 4283 1 3 × P1 4285 3 1
+pub p1 : P1 4323 4096 1 3 × P1 4325 4096 3 1 × P1 4283 16384 1 3 × P1 4285 16384 3 1
 unfolding opened
 p1 = (
   record { taken = refl; pin = refl },
@@ -14,7 +14,7 @@ p1 = (
 )
 
 -- P5: page wrap.
-pub p5 : P5 4323 × P5 4325 × P5 4283 × P5 4285
+pub p5 : P5 4323 4096 × P5 4325 4096 × P5 4283 16384 × P5 4285 16384
 unfolding opened
 p5 = (
   record { taken = (refl, refl); page = refl; counter = refl; next = refl; steps = refl },
@@ -24,7 +24,7 @@ p5 = (
 )
 
 -- P6: slave bytes.
-pub p6 : P6 4323 2 3 × P6 4325 0 1 × P6 4283 2 3 × P6 4285 0 1
+pub p6 : P6 4323 4096 2 3 × P6 4325 4096 0 1 × P6 4283 16384 2 3 × P6 4285 16384 0 1
 unfolding opened
 p6 = (
   record { taken = (refl, refl, refl, refl); writes = refl; reads = refl; select = refl; code = refl },
@@ -34,7 +34,7 @@ p6 = (
 )
 
 -- P7: the three register steps.
-pub p7 : P7 4323 × P7 4325 × P7 4283 × P7 4285
+pub p7 : P7 4323 4096 × P7 4325 4096 × P7 4283 16384 × P7 4285 16384
 unfolding opened
 p7 = (
   record { watchdog = refl; block = refl; reads = refl; taken = refl; bus = refl },
@@ -44,7 +44,7 @@ p7 = (
 )
 
 -- P8: a third byte that changes nothing.
-pub p8 : P8 4323 × P8 4325 × P8 4283 × P8 4285
+pub p8 : P8 4323 4096 × P8 4325 4096 × P8 4283 16384 × P8 4285 16384
 unfolding opened
 p8 = (
   record { taken = refl; before = refl; same = refl; time = refl; array = refl },
@@ -54,7 +54,7 @@ p8 = (
 )
 
 -- P9: write time.
-pub p9 : P9 4323 7 3 × P9 4325 5 1 × P9 4283 7 3 × P9 4285 5 1
+pub p9 : P9 4323 4096 7 3 × P9 4325 4096 5 1 × P9 4283 16384 7 3 × P9 4285 16384 5 1
 unfolding opened
 p9 = (
   record { taken = refl; last = refl },

@@ -2,26 +2,24 @@
 -- paper's numbers are written out here and in the cases and are not those that the sheet names, so that a case tests the sheet (document 01,
 -- Bench cases).
 use Prim.Native.Nat.{ℕ, _-_, _%_}
-use mathlib.Core.Bool.{_||_, cond}
 use mathlib.Core.List.{List, [], _∷_}
-use lib.Dec.{eqb}
 use lib.ListN.{length, drop, replicate}
 use Rattle.power.specs.Power.{atPower}
 use Rattle.sample.specs.Run.{Part}
 use Rattle.waves.specs.Waves.{Capture, joined, wait, pageWrite}
 use Rattle.runs.specs.Runs.{afterCapture, answersTo, Taken}
 
--- How many bytes the array of a part has: 16,384 on an X4283 and an X4285, else 4,096 (The part on our bench; request 2026-01).
-abbrev pub arrayBytes : ℕ → ℕ
-arrayBytes part = cond (eqb part 4283 || eqb part 4285) 16384 4096
-
 -- A part at power-up, with select 0, a stored byte and an array (State and time, power-up).
 abbrev pub holding : ℕ → ℕ → List ℕ → Part
 holding part stored array = atPower part 0 stored array
 
--- The same with an array all FFh (The part on our bench).
+-- The same with an array of so many bytes, all FFh (The part on our bench; request 2026-01).
+abbrev pub blankOf : ℕ → ℕ → ℕ → Part
+blankOf part size stored = holding part stored (replicate size 0xFF)
+
+-- The same of 4,096 bytes (The part on our bench).
 abbrev pub blankPart : ℕ → ℕ → Part
-blankPart part stored = holding part stored (replicate (arrayBytes part) 0xFF)
+blankPart part stored = blankOf part 4096 stored
 
 -- A part after captures, one after the other (State and time, each sample).
 abbrev pub partAt : Part → List Capture → Part

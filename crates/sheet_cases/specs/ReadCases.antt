@@ -8,7 +8,7 @@ use lib.ListN.{replicate}
 use Rattle.page.specs.Page.{at}
 use Rattle.sample.specs.Run.{Part}
 use Rattle.waves.specs.Waves.{Capture, brisk, pageWrite, readFrom}
-use Rattle.runs.specs.Bench.{holding, blankPart, partAt, answersAt, AcceptedAt, opening, registerByte, lastAnswers, sdaBits, clockedBits}
+use Rattle.runs.specs.Bench.{holding, blankOf, blankPart, partAt, answersAt, AcceptedAt, opening, registerByte, lastAnswers, sdaBits, clockedBits}
 
 -- 02h to the register, then 5Ah to an address (Bytes on the wire, write).
 abbrev pub written : ℕ → List Capture
@@ -71,13 +71,13 @@ farWritten place = replicate place 0xFF ++ 0x5A ∷ replicate (0x3FFF - place) 0
 -- Of a larger part 0FFFh and 1FFFh are two places, 3FFFh is the last, and so is 7FFFh by its low 14 bits; 02h sent to 0FFFh sets no latch
 -- (Bytes on the wire, write; request 2026-01).
 pub record S25 (part : ℕ) : Type 0 where
-  pub taken : AcceptedAt (blankPart part 0) (written 0x0FFF) × AcceptedAt (blankPart part 0) (written 0x1FFF)
-  pub accepted : AcceptedAt (blankPart part 0) (written 0x3FFF) × AcceptedAt (blankPart part 0) (written 0x7FFF) × AcceptedAt (blankPart part 0) latchless
-  pub first : partAt (blankPart part 0) (written 0x0FFF) .array ≡ farWritten 0x0FFF
-  pub second : partAt (blankPart part 0) (written 0x1FFF) .array ≡ farWritten 0x1FFF
-  pub last : partAt (blankPart part 0) (written 0x3FFF) .array ≡ farWritten 0x3FFF
-  pub beyond : partAt (blankPart part 0) (written 0x7FFF) .array ≡ farWritten 0x3FFF
-  pub latch : partAt (blankPart part 0) latchless .state .device .control .wel ≡ false
+  pub taken : AcceptedAt (blankOf part 16384 0) (written 0x0FFF) × AcceptedAt (blankOf part 16384 0) (written 0x1FFF)
+  pub accepted : AcceptedAt (blankOf part 16384 0) (written 0x3FFF) × AcceptedAt (blankOf part 16384 0) (written 0x7FFF) × AcceptedAt (blankOf part 16384 0) latchless
+  pub first : partAt (blankOf part 16384 0) (written 0x0FFF) .array ≡ farWritten 0x0FFF
+  pub second : partAt (blankOf part 16384 0) (written 0x1FFF) .array ≡ farWritten 0x1FFF
+  pub last : partAt (blankOf part 16384 0) (written 0x3FFF) .array ≡ farWritten 0x3FFF
+  pub beyond : partAt (blankOf part 16384 0) (written 0x7FFF) .array ≡ farWritten 0x3FFF
+  pub latch : partAt (blankOf part 16384 0) latchless .state .device .control .wel ≡ false
 
 -- A part with 11h at 0000h, A5h at 0FFFh, 3Ch at 1000h and 96h at 3FFFh, all else FFh (request 2026-01).
 abbrev pub fourFar : ℕ → Part
