@@ -8,7 +8,8 @@ ghost use Rattle.digits.specs.Values.{shiftBy, valueOf};
 // How many digits there are.
 pub const BASE: u8 = 16;
 
-fn within(low: u8, high: u8, character: u8) -> bool
+// Whether a character lies between two others, both included.
+pub fn within(low: u8, high: u8, character: u8) -> bool
     ensures { λ r. ⌜ r ≡ within low high character ⌝ }
 {
     if character >= low {

@@ -2,42 +2,30 @@
 use ground::kinds;
 ghost use mathlib.Core.Path.{_≡_};
 ghost use Prim.Native.Nat.{_+_, _*_, min};
-ghost use Rattle.words.specs.Words.{partNamed, between, figureOf, numeral, figuresValue, isNumber, countsAs};
+ghost use Rattle.words.specs.Words.{partNamed, figureOf, numeral, figuresValue, isNumber, countsAs};
 ghost use Rattle.words.specs.Marks.{MarkEnds};
 
 const TEN: u8 = 10;
-
-// As a digit's value it stands for no digit.
-const SIXTEEN: u8 = 16;
 
 const WIDEST_PART: u32 = 65_535;
 
 // The part where no word names one.
 pub const LEFT_OUT: u16 = kinds::X4323;
 
-fn within(low: u8, high: u8, character: u8) -> bool
-    ensures { λ r. ⌜ r ≡ between low high character ⌝ }
-{
-    if character >= low {
-        return character <= high;
-    }
-    false
-}
-
 // The value of a character as a digit.
 fn digit(character: u8) -> u8
     ensures { λ r. ⌜ r ≡ figureOf character ⌝ }
 {
-    if within(0x30, 0x39, character) {
+    if digits::within(0x30, 0x39, character) {
         return character - 0x30;
     }
-    if within(0x41, 0x46, character) {
+    if digits::within(0x41, 0x46, character) {
         return character - 0x41 + TEN;
     }
-    if within(0x61, 0x66, character) {
+    if digits::within(0x61, 0x66, character) {
         return character - 0x61 + TEN;
     }
-    SIXTEEN
+    digits::BASE
 }
 
 // Whether characters are a number in a base.
@@ -110,7 +98,7 @@ pub fn is_number(word: &[u8]) -> bool
         return true;
     }
     let from = after_mark(word);
-    is_numeral(SIXTEEN, &word[from..])
+    is_numeral(digits::BASE, &word[from..])
 }
 
 // What a word counts in a field whose largest value is `most`: its value, or `most` where it is no number or too wide.
@@ -121,8 +109,8 @@ pub fn number_of(word: &[u8], most: u32) -> u32
         return value(TEN, word, most);
     }
     let from = after_mark(word);
-    if is_numeral(SIXTEEN, &word[from..]) {
-        return value(SIXTEEN, &word[from..], most);
+    if is_numeral(digits::BASE, &word[from..]) {
+        return value(digits::BASE, &word[from..], most);
     }
     most
 }
