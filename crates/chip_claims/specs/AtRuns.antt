@@ -27,9 +27,9 @@ rowFor c = replicate (length (c .levels)) 0
 abbrev pub Outcome : Capture → Part → Replayed → List ℕ → List ℕ → Type 0
 Outcome c p r array′ row′ = Replays (p .state) (c .times) (c .levels) (p .array) (rowFor c) r array′ row′
 
--- Replays of the read differ first at sample 126, in SDA alone, and so they do above 0FFFh of an X4283; replays of the write come to the same; the read in two pieces is the read; from
--- power-up the two parts are alike; and if the part holds SDA low where the read is cut off after its third bit, it acknowledges or sends a 0
--- (demand 3).
+-- Replays of the read differ first at sample 126, in SDA alone, and so they do above 0FFFh of an X4283; replays of the write come to the
+-- same; the read in two pieces is the read; from power-up the two parts are alike; and if the part holds SDA low where the read is cut off
+-- after its third bit, it acknowledges or sends a 0 (demand 3).
 pub record AtRuns : Type 0 where
   pub read : (r q : Replayed) (xs ys said said₂ : List ℕ) → Outcome readIt left r xs said → Outcome readIt right q ys said₂
       → SplitAt 126 said said₂
