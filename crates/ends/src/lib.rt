@@ -4,7 +4,7 @@ use part::state::Control;
 use part::state::Device;
 use part::state::Phase;
 ghost use mathlib.Core.Path.{_≡_};
-ghost use Rattle.ends.specs.Ends.{dropped, startedOf, stoppedOf, endedOf};
+ghost use Rattle.ends.specs.Ends.{dropped, startedOf, keepsForStop, cutsOff, controlLeft, stoppedOf, endedOf};
 
 // No choice, no pending byte.
 fn drop_all(c: Control) -> Control
@@ -33,6 +33,40 @@ pub fn start(writing: bool, d: Device) -> Device
     let t = address::rest(Phase::Slave);
     next.talk = t;
     next
+}
+
+// Whether a byte of this phase is kept for a stop to act on.
+fn keeps_for_stop(phase: Phase) -> bool
+    ensures { λ r. ⌜ r ≡ keepsForStop phase ⌝ }
+{
+    match phase {
+        Phase::Data => true,
+        Phase::Register => true,
+        Phase::Idle => false,
+        Phase::Silent => false,
+        Phase::Slave => false,
+        Phase::High => false,
+        Phase::Low => false,
+        Phase::Send => false,
+        Phase::SendRegister => false,
+    }
+}
+
+// Whether a stop with so many committed bits cuts off such a byte.
+pub fn cuts_off(phase: Phase, bits: u8) -> bool
+    ensures { λ r. ⌜ r ≡ cutsOff phase bits ⌝ }
+{
+    keeps_for_stop(phase) & (0 < bits)
+}
+
+// The control register as a stop finds it, which may have cut a byte off.
+pub fn left(cut: bool, c: Control) -> Control
+    ensures { λ r. ⌜ r ≡ controlLeft cut c ⌝ }
+{
+    if cut {
+        return address::unpend(c);
+    }
+    c
 }
 
 // The device after a stop that carries out an order.
