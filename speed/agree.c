@@ -213,22 +213,38 @@ bool agree_on_refusals(void)
     return ok;
 }
 
+/* One capture that is always the same. */
+static bool agree_on_capture(const char *what, const struct kind *kind, uint8_t stored, void (*capture)(struct master *))
+{
+    struct master m;
+    struct call c = sound(kind);
+
+    fill_array(array, kind->bytes, 1, 1);
+    master_begin(&m, elapsed, levels, MOST_SAMPLES, kind->bytes, 1);
+    capture(&m);
+    c.elapsed_len = c.levels_len = c.answers_len = m.length;
+    c.stored = stored;
+    return agree(what, REPLAY, &c, 0);
+}
+
 bool agree_on_blocks(void)
 {
     enum { CODES = 8 };
-    struct master m;
     bool ok = true;
 
     for (unsigned i = 0; i < KINDS * CODES; i++) {
-        const struct kind *kind = &kinds[i / CODES];
-        struct call c = sound(kind);
         unsigned code = i % CODES;
-        fill_array(array, kind->bytes, 1, 1);
-        master_begin(&m, elapsed, levels, MOST_SAMPLES, kind->bytes, 1);
-        capture_places(&m);
-        c.elapsed_len = c.levels_len = c.answers_len = m.length;
-        c.stored = (uint8_t)(0x60 | (code & 3) << 3 | code >> 2);
-        ok &= agree("a block code", REPLAY, &c, 0);
+        ok &= agree_on_capture("a block code", &kinds[i / CODES], (uint8_t)(0x60 | (code & 3) << 3 | code >> 2), capture_places);
+    }
+    return ok;
+}
+
+bool agree_on_cuts(void)
+{
+    bool ok = true;
+    for (int i = 0; i < KINDS; i++) {
+        ok &= agree_on_capture("cut page writes", &kinds[i], 0x60, capture_cut_pages);
+        ok &= agree_on_capture("cut register writes", &kinds[i], 0x60, capture_cut_registers);
     }
     return ok;
 }
@@ -253,32 +269,6 @@ static bool agree_on_rough_captures(void)
     return ok;
 }
 
-/* A text with a few bytes changed, most of which its checksums give away. */
-static size_t damaged_text(struct master *m, const struct input *from)
-{
-    enum { CHANGES = 3 };
-    size_t length = from->length[0];
-
-    memcpy(text, from->text, length);
-    for (uint32_t k = master_random(m, CHANGES + 1); k > 0; k--)
-        text[master_random(m, (uint32_t)length)] = (uint8_t)"0123456789ABCDEF:\n\r \0f"[master_random(m, 22)];
-    return length;
-}
-
-/* A few sound records, most of them near an end of a part or one on another. */
-static size_t scattered_text(struct master *m)
-{
-    static const uint16_t ends[] = {0, SMALLER, LARGER / 2, LARGER};
-    uint8_t *at = text;
-
-    for (uint32_t k = 1 + master_random(m, 4); k > 0; k--) {
-        unsigned count = master_random(m, 4) ? master_random(m, 20) : master_random(m, 256);
-        unsigned address = master_random(m, 8) ? ends[master_random(m, 4)] - master_random(m, 300) : master_random(m, 65536);
-        at = put_line(at, address & 0xFFFF, 0, levels, count);
-    }
-    return (size_t)(put_line(at, 0, 1, NULL, 0) - text);
-}
-
 bool agree_on_random(void)
 {
     enum { TURNS = 2000 };
@@ -292,9 +282,9 @@ bool agree_on_random(void)
         const struct kind *kind = &kinds[turn % KINDS];
         struct call c = sound(kind);
         fill_array(array, kind->bytes, turn % 7, turn);
-        c.text_len = damaged_text(&m, &input);
+        c.text_len = damaged_text(text, input.text, input.length[0], &m);
         ok &= agree("a damaged text", READ, &c, -1);
-        c.text_len = scattered_text(&m);
+        c.text_len = scattered_text(text, levels, &m);
         ok &= agree("scattered records", READ, &c, -1);
         ok &= turn % 8 >= KINDS || agree("some array", WRITE, &c, 0);
     }

@@ -1,5 +1,6 @@
 /* The benchmark's program; `run` calls it.
- *   bench check              both sides on every job, on refused and random inputs and at blocks' ends; status 1 if anything differs
+ *   bench check              both sides on every job, on refused and random inputs, at blocks' ends and on stops inside a byte;
+ *                            status 1 if anything differs
  *   bench table ROUNDS WAY [COUNTS]   measures and judges; WAY is `time` or `instructions`; status 1 if a bar is missed.
  *                            COUNTS: a file of lines `JOB PROVED C`, instructions of the job counted from outside
  *   bench counter            status 0 if the kernel lets this program count its instructions itself
@@ -34,6 +35,7 @@ static int check(void)
     }
     ok &= agree_on_refusals();
     ok &= agree_on_blocks();
+    ok &= agree_on_cuts();
     ok &= agree_on_random();
     printf(ok ? "equal: replies, answers, arrays and texts of both sides on every input\n" : "FAIL: the two sides differ\n");
     return !ok;

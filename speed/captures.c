@@ -136,6 +136,79 @@ void capture_places(struct master *m)
             }
 }
 
+/* A stop after this many bits of a byte, eight at most; then a byte without a start, which an idle part
+ * does not hear. No other stop follows: it would drop a choice that the first one has left. */
+static void cut(struct master *m, uint8_t byte, unsigned bits)
+{
+    master_bits(m, byte, bits);
+    master_stop(m);
+    if (bits == 8)
+        master_stop(m); /* the part may have held SDA low through the first one */
+    data_bytes(m, 1);
+}
+
+static void read_register(struct master *m)
+{
+    master_address(m, 0, 0xFFFF);
+    master_read(m, 0, 1);
+}
+
+/* A read so soon after the stop is heard only if nothing is being written, and shows the counter. The
+ * addresses differ, so that bytes of a load that was not dropped would turn up in a later page. */
+static void cut_page(struct master *m, size_t whole, unsigned bits)
+{
+    uint16_t address = some_address(m);
+
+    master_address(m, 0, address);
+    data_bytes(m, whole);
+    cut(m, (uint8_t)master_random(m, 256), bits);
+    master_read(m, 0, 1);
+    master_idle(m, 1, 5000);
+    master_read(m, 0, 1);
+    master_address(m, 0, address);
+    master_read(m, 0, 3);
+}
+
+void capture_cut_pages(struct master *m)
+{
+    static const uint8_t whole[] = {0, 1, 2, 5, 64, 66};
+
+    master_end_reset(m);
+    master_register(m, 0, 0x02);
+    for (size_t i = 0; i < sizeof whole; i++)
+        for (unsigned bits = 0; bits <= 8; bits++)
+            cut_page(m, whole[i], bits);
+}
+
+/* One step of the register: cut within its byte, cut within a second one, then whole. */
+static void cut_register(struct master *m, uint8_t byte, unsigned bits)
+{
+    master_address(m, 0, 0xFFFF);
+    cut(m, byte, bits);
+    read_register(m);
+    master_idle(m, 1, 5000);
+    master_address(m, 0, 0xFFFF);
+    master_send(m, byte);
+    cut(m, (uint8_t)master_random(m, 256), bits);
+    master_read(m, 0, 1); /* of the array: the choice is dropped */
+    read_register(m);
+    master_idle(m, 1, 5000);
+    master_register(m, 0, byte);
+    master_idle(m, 1, 5000);
+    read_register(m);
+}
+
+void capture_cut_registers(struct master *m)
+{
+    master_end_reset(m);
+    for (unsigned bits = 0; bits <= 8; bits++) {
+        cut_register(m, 0x02, bits);
+        cut_register(m, 0x06, bits);
+        cut_register(m, (uint8_t)(0x02 | bits << 3), bits); /* the third step: another byte each time */
+        cut_register(m, 0x00, bits);
+    }
+}
+
 /* A rough turn is meant to reach every branch of the rules, not to be likely. */
 static void rough_turn(struct master *m, uint8_t own_select)
 {
@@ -162,8 +235,14 @@ static void rough_turn(struct master *m, uint8_t own_select)
         if (master_random(m, 3) == 0)
             master_idle(m, master_random(m, 16), master_random(m, 100001));
         break;
-    case 4: /* a byte broken off */
-        master_address(m, select, some_address(m));
+    case 4: /* a byte broken off: the first or a later one, of the array or of the register */
+        if (master_random(m, 2)) {
+            master_address(m, select, some_address(m));
+            data_bytes(m, master_random(m, 4));
+        } else {
+            master_address(m, select, 0xFFFF);
+            master_send(m, register_bytes[master_random(m, sizeof register_bytes)]);
+        }
         for (unsigned i = master_random(m, 20); i > 0; i--)
             master_bit(m, (uint8_t)master_random(m, 2));
         if (master_random(m, 2))

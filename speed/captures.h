@@ -14,6 +14,8 @@ void capture_edges(struct master *m);  /* a start or a stop at every sample */
 
 /* For comparison only. */
 void capture_places(struct master *m); /* a byte written and two read at each place where a block may begin or end, and before it */
+void capture_cut_pages(struct master *m);     /* a stop after each number of bits of the byte after whole ones */
+void capture_cut_registers(struct master *m); /* the same of each step's register byte, and of one after it */
 void capture_rough(struct master *m, uint8_t select); /* mostly to this select; wrong turns, VCC drops, WP, long waits, noise */
 
 #endif

@@ -71,10 +71,15 @@ void master_bit(struct master *m, uint8_t sda)
     master_lines(m, 0, sda, FALL);
 }
 
+void master_bits(struct master *m, uint8_t byte, unsigned count)
+{
+    for (unsigned i = 0; i < count; i++)
+        master_bit(m, byte >> (7 - i) & 1);
+}
+
 void master_send(struct master *m, uint8_t byte)
 {
-    for (int i = 7; i >= 0; i--)
-        master_bit(m, byte >> i & 1);
+    master_bits(m, byte, 8);
     master_bit(m, 1);
 }
 

@@ -32,6 +32,7 @@ void master_end_reset(struct master *m); /* three idle samples, the last of whic
 void master_start(struct master *m);     /* also a repeated one, while SCL is low */
 void master_stop(struct master *m);
 void master_bit(struct master *m, uint8_t sda);
+void master_bits(struct master *m, uint8_t byte, unsigned count); /* the first of a byte's bits, eight at most */
 void master_send(struct master *m, uint8_t byte);  /* eight bits, and a clock with SDA released for the acknowledge */
 void master_take(struct master *m, bool go_on);    /* eight clocks with SDA released, then low to go on */
 void master_address(struct master *m, uint8_t select, uint16_t address); /* start, slave byte for writing, address */

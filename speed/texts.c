@@ -1,5 +1,7 @@
 #include "texts.h"
 
+#include "kinds.h"
+
 #include <string.h>
 
 enum { ROW_BYTES = 16, EMPTY_LINE = 12 };
@@ -52,5 +54,28 @@ size_t make_text(uint8_t *text, size_t room, const uint8_t *array, size_t bytes,
         at = put_line(at, address, 0, array + address, per_record);
     while ((size_t)(end - at) >= EMPTY_LINE)
         at = put_line(at, address, 0, NULL, 0);
+    return (size_t)(put_line(at, 0, 1, NULL, 0) - text);
+}
+
+size_t damaged_text(uint8_t *text, const uint8_t *from, size_t length, struct master *m)
+{
+    enum { CHANGES = 3 };
+
+    memcpy(text, from, length);
+    for (uint32_t k = master_random(m, CHANGES + 1); k > 0; k--)
+        text[master_random(m, (uint32_t)length)] = (uint8_t)"0123456789ABCDEF:\n\r \0f"[master_random(m, 22)];
+    return length;
+}
+
+size_t scattered_text(uint8_t *text, const uint8_t *data, struct master *m)
+{
+    static const uint16_t ends[] = {0, SMALLER, LARGER / 2, LARGER};
+    uint8_t *at = text;
+
+    for (uint32_t k = 1 + master_random(m, 4); k > 0; k--) {
+        unsigned count = master_random(m, 4) ? master_random(m, 20) : master_random(m, 256);
+        unsigned address = master_random(m, 8) ? ends[master_random(m, 4)] - master_random(m, 300) : master_random(m, 65536);
+        at = put_line(at, address & 0xFFFF, 0, data, count);
+    }
     return (size_t)(put_line(at, 0, 1, NULL, 0) - text);
 }

@@ -113,11 +113,19 @@ static void write_register(struct twin *s, bool wp)
     }
 }
 
+/* A data or register byte has begun, or its acknowledge has not ended. The bit of a stop's own clock is
+ * taken and never committed, so that it begins no byte. */
+static bool inside_byte(const struct twin *s)
+{
+    return s->committed != 0 && (s->phase == ARRAY_DATA || s->phase == REGISTER_DATA);
+}
+
+/* Asked only where there is something to cancel: most stops have nothing. */
 static void stop(struct twin *s, uint8_t *array, bool wp)
 {
-    if (s->any_loaded)
+    if (s->any_loaded && !inside_byte(s))
         store_page(s, array);
-    if (s->pending)
+    if (s->pending && !inside_byte(s))
         write_register(s, wp);
     drop_talk(s, QUIET);
     s->register_chosen = false;

@@ -1,55 +1,9 @@
 /* The bench cases P1 to P9, the larger part's rules and a few more on the C twin, each worked out by hand from the papers: a twin
  * that is wrong measures nothing. What the state holds is seen from outside, by the answers and by reading back. */
-#include "master.h"
-#include "twin.h"
+#include "checking.h"
 #include "twin_state.h"
 
 #include <stdio.h>
-#include <string.h>
-
-enum { ROOM = 65536, OWN_SDA = 1, PIN = 2, WRITING = 4 };
-
-static uint32_t elapsed[ROOM];
-static uint8_t levels[ROOM], answers[ROOM], array[LARGER];
-static int failures;
-
-static void expect(bool holds, const char *what)
-{
-    if (holds)
-        return;
-    printf("FAIL %s\n", what);
-    failures++;
-}
-
-static void begin(struct master *m)
-{
-    master_begin(m, elapsed, levels, ROOM, LARGER, 1);
-    memset(array, 0xFF, sizeof array);
-}
-
-static void replay(const struct master *m, uint16_t part, uint8_t stored)
-{
-    uint64_t reply[2];
-    size_t array_len = part == 4323 || part == 4325 ? 4096 : 16384;
-    ctwin_replay(part, 0, stored, elapsed, m->length, levels, m->length, array, array_len, answers, m->length, reply, 2);
-    expect(reply[0] == 0 && reply[1] == m->length, "a capture is accepted with its length");
-}
-
-/* The byte that a read of one byte gave, when `end` is the length after its stop: 3 samples stop, 3 the ninth clock, before them
- * the falls that put bits 7 to 0 on SDA, the first of them the slave byte's ninth. */
-static uint8_t byte_read(size_t end)
-{
-    uint8_t byte = 0;
-    for (size_t bit = 0; bit < 8; bit++)
-        byte = (uint8_t)(byte << 1 | (answers[end - 3 - 27 - 1 + 3 * bit] & OWN_SDA));
-    return byte;
-}
-
-/* Whether the byte sent last was acknowledged, when `end` is the length after it. */
-static bool acknowledged(size_t end)
-{
-    return !(answers[end - 2] & OWN_SDA);
-}
 
 static void p1(uint16_t part, uint8_t active)
 {
@@ -292,9 +246,12 @@ int main(void)
         reads_go_on(larger, 0x0FFF, 0x1000);
         reads_go_on(larger, 0x3FFF, 0x0000);
     }
+    for (int i = 0; i < KINDS; i++)
+        check_cuts(kinds[i].part);
     wel_low();
     rwel_needs_wel();
     refusals_by_size();
-    printf(failures ? "the C twin fails its own cases\n" : "the C twin keeps P1 to P9, on both sizes\n");
+    printf(failures ? "the C twin fails its own cases\n"
+                    : "the C twin keeps P1 to P9 and the rule of stops inside a byte, on both sizes\n");
     return failures != 0;
 }

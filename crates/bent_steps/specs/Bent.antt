@@ -1,6 +1,6 @@
--- Three steps that bend one rule each, and for each of them runs for which demand 3 fails and for which it still holds: demand 3
+-- Four steps that bend one rule each, and for each of them runs for which demand 3 fails and for which it still holds: demand 3
 -- tells a part that does these from one that does not (demand 3; document 01, Bytes on the wire; State and time, a byte being sent).
--- For a person from the line: three chips that each break one rule, and the recordings that give them away.
+-- For a person from the line: four chips that each break one rule, and the recordings that give them away.
 use Prim.Native.Nat.{ℕ, zero, suc, _+_, _-_, _*_, _/_, _%_, _^_}
 use mathlib.Core.Bool.{Bool, true, false}
 use mathlib.Core.List.{List}
@@ -14,15 +14,17 @@ use Rattle.part.specs.declared.state.Phase.the-variants.{Send}
 use Rattle.part.specs.declared.state.Place.{Place}
 use Rattle.part.specs.declared.state.State.{State}
 use Rattle.part.specs.declared.state.Talk.{Talk}
-use Rattle.wire.specs.Sign.{pushed}
-use Rattle.part.specs.State.{withDevice, withLoad, withTalk, withOut, withControl, withStored, withWel}
+use Rattle.wire.specs.Sign.{pushed, cleanFrame}
+use Rattle.wire.specs.declared.Sign.the-variants.{Quiet, Start, Stop, Bit, Byte, Ninth}
+use Rattle.part.specs.State.{withWire, withDevice, withLoad, withTalk, withOut, withControl, withStored, withWel}
 use Rattle.address.specs.Talk.{sending}
+use Rattle.sample.specs.Sample.{opensOf, Seen, unseen, sees, seenOf}
 use Rattle.sample.specs.Run.{Part, partStep}
 use Rattle.waves.specs.Waves.{Capture, after}
 use Rattle.demand3.specs.Sending.{Sent, nothing, sends, sendsArray, sentOf}
 use Rattle.demand3.specs.Differ.{When, never, sample}
 use Rattle.demand3_runs.specs.Under.{Step, diffUnder}
-use Rattle.demand3_runs.specs.Occurs.{left, right, lockedLeft, lockedRight, readIt, setWrite, unsetWrite, partWay, midway, holdsOf}
+use Rattle.demand3_runs.specs.Occurs.{left, right, lockedLeft, lockedRight, readIt, setWrite, unsetWrite, cutWrite, partWay, midway, holdsOf}
 
 -- The part with another talk.
 abbrev pub withTalkOf : Part → Talk → Part
@@ -75,6 +77,21 @@ loadedWith p l = record { state = withLoad (p .state) l; array = p .array }
 unfoldable pub keepsWithheld : Step
 keepsWithheld e l p = loadedWith (partStep e l p) (partStep e l (permitted p) .state .load)
 
+-- The part as a stop would find it with no bit committed; at any other sign as it is.
+abbrev pub uncut : Seen → Part → Part
+uncut unseen p = p
+uncut (sees Quiet) p = p
+uncut (sees Start) p = p
+uncut (sees (Stop n)) p =
+    record { state = withWire (p .state) (record { lines = p .state .wire .lines; frame = cleanFrame }); array = p .array }
+uncut (sees Bit) p = p
+uncut (sees (Byte v)) p = p
+uncut (sees (Ninth b)) p = p
+
+-- Bent: a stop writes the load though it cuts a byte off (against request 2026-02).
+unfoldable pub writesCut : Step
+writesCut e l p = partStep e l (uncut (seenOf l (opensOf e l (p .state))) p)
+
 -- Under a bent step: where the answers differ; demand 3 fails.
 pub record Breaks (step : Step) (p q : Part) (c : Capture) (first : When) : Type 0 where
   pub differ : diffUnder step (c .times) (c .levels) p q ≡ first
@@ -89,3 +106,5 @@ pub record BentSteps : Type 0 where
   pub kept-unset : Breaks keepsWithheld left right unsetWrite never
   pub kept-locked : Breaks keepsWithheld lockedLeft lockedRight setWrite never
   pub kept-spares : holdsOf keepsWithheld left right readIt ≡ true
+  pub cut : Breaks writesCut left right cutWrite never
+  pub cut-spares : holdsOf writesCut left right setWrite ≡ true

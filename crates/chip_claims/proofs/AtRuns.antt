@@ -1,8 +1,8 @@
 -- The claims on the part at captures that were computed. Each law rests on the claims that it names.
-use mathlib.Core.Bool.{true}
+use mathlib.Core.Bool.{true, false}
 use mathlib.Core.List.{List}
-use mathlib.Core.Path.{_≡_, refl, _∙_}
-use lib.ListN.{take}
+use mathlib.Core.Path.{_≡_, refl, ap, _∙_}
+use lib.ListN.{getD, take}
 use Prim.Native.Nat.{ℕ}
 use Rattle.ground.specs.Numbers.{x4323, x4283}
 use Rattle.ground.specs.Kind.{kindOf}
@@ -11,14 +11,19 @@ use Rattle.ground.specs.declared.Reply.the-variants.{Accepted}
 use Rattle.refusals.specs.Refusals.{powerOf}
 use Rattle.power.specs.Power.{poweredUp}
 use Rattle.power.specs.declared.Replayed.{Replayed}
-use Rattle.waves.specs.Waves.{Capture}
-use Rattle.runs.specs.Runs.{Taken}
+use Rattle.waves.specs.Waves.{Capture, upTo}
+use Rattle.wire.specs.declared.Sign.the-variants.{Stop}
+use Rattle.ends.specs.Ends.{cutsOff}
+use Rattle.sample.specs.Sample.{opensOf, savedOf, sees, seenOf}
+use Rattle.sample.specs.Run.{Part}
+use Rattle.chip_claims.specs.CutStops.{CutStops}
+use Rattle.runs.specs.Runs.{afterCapture, Taken}
 use Rattle.runs.proofs.Opened.{opened}
 use Rattle.reachable.specs.Reachable.{Reachable}
 use Rattle.demand3.specs.Sending.{nothing, sends, sentOf}
 use Rattle.part.specs.declared.state.State.{State}
 use Rattle.demand3.specs.Differ.{fetchesNone, EqualBut, FullLoad, sentAfter}
-use Rattle.demand3_runs.specs.Occurs.{spot, left, right, farSpot, farLeft, farRight, readAt, readIt, unsetWrite, setWrite, cutRead, Occurs}
+use Rattle.demand3_runs.specs.Occurs.{spot, left, right, farSpot, farLeft, farRight, readAt, readIt, unsetWrite, setWrite, cutWrite, cutAt, storedAt, cutRead, Occurs}
 use Rattle.chip_claims.specs.Demand3.{over, Compared, ReplayDemand3, PowerDemand3, ComputedForm}
 use Rattle.chip_claims.specs.States.{HandedOut, FitAgain, CutAnywhere}
 use Rattle.chip_claims.specs.AtRuns.{rowFor, Outcome, AtRuns}
@@ -65,10 +70,32 @@ third-bit : sentAfter (cutRead .times) (cutRead .levels) left nothing ≡ sends 
 unfolding opened sentOf
 third-bit = refl
 
+-- The stop of the write that is cut is seen with three bits committed, while data comes in; that of the other with none.
+cut-seen : seenOf 11 (opensOf 1 11 (afterCapture (upTo cutAt cutWrite) left .state)) ≡ sees (Stop 3)
+unfolding opened
+cut-seen = refl
+
+cuts-three : cutsOff (afterCapture (upTo cutAt cutWrite) left .state .device .talk .phase) 3 ≡ true
+unfolding opened
+cuts-three = refl
+
+whole-seen : seenOf 11 (opensOf 1 11 (afterCapture (upTo storedAt setWrite) left .state)) ≡ sees (Stop 0)
+unfolding opened
+whole-seen = refl
+
+cuts-none : cutsOff (afterCapture (upTo storedAt setWrite) left .state .device .talk .phase) 0 ≡ false
+unfolding opened
+cuts-none = refl
+
+-- What the other stores.
+stored-there : getD (savedOf (afterCapture (upTo storedAt setWrite) left .state) (afterCapture (upTo storedAt setWrite) left .array)) spot 0 ≡ 0x77
+unfolding opened
+stored-there = refl
+
 -- The claims at the runs.
-pub runs-from : Occurs → ReplayDemand3 → PowerDemand3 → ComputedForm → HandedOut → FitAgain → CutAnywhere → AtRuns
+pub runs-from : Occurs → ReplayDemand3 → PowerDemand3 → ComputedForm → HandedOut → FitAgain → CutAnywhere → CutStops → AtRuns
 unfolding kindOf
-runs-from o replay3 power3 form handed fit cut =
+runs-from o replay3 power3 form handed fit cut stops =
     record {
       read = λ r q xs ys said said₂ x y. compares replay3 o readIt (o .read .taken) r q xs ys said said₂ x y .reached 126 (o .read .reached);
       far = λ r q xs ys said said₂ x y.
@@ -93,5 +120,9 @@ runs-from o replay3 power3 form handed fit cut =
       stays =
           power3 .alike spot left (right .array) (unsetWrite .times) (unsetWrite .levels) (left-reachable handed o) (o .arrays) .uncovered
           (o .covering .0);
+      cancelled = stops .cancels 1 11 3 (afterCapture (upTo cutAt cutWrite) left) cut-seen cuts-three;
+      stored =
+          ap (λ (r : Part). getD (r .array) spot 0) (stops .works 1 11 0 (afterCapture (upTo storedAt setWrite) left) whole-seen cuts-none)
+          ∙ stored-there;
       form = form .holds spot (left .state) (left .array) (right .array) (readIt .times) (readIt .levels) left-load (o .arrays);
     }

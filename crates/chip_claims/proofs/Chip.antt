@@ -4,6 +4,7 @@ use Rattle.demand2.proofs.Cut.{cut-joined}
 use Rattle.demand3.proofs.Demand3.{two-parts}
 use Rattle.demand3.proofs.Asked.{same-state}
 use Rattle.demand3_runs.proofs.Witness.{occurs}
+use Rattle.chip_claims.proofs.CutStops.{cut-stops}
 use Rattle.ranges.proofs.InRange.{run-fit}
 use Rattle.reachable.proofs.Reachable.{power-reachable, reachable-on, reachable-keeps}
 use Rattle.reachable.proofs.Holds.{reachable-holds}
@@ -53,4 +54,4 @@ cut-anywhere = record { joined = cut-joined demand-2 }
 -- All of it at captures that were computed.
 pub at-runs : AtRuns
 at-runs =
-    runs-from occurs replay-demand-3 power-demand-3 computed-form handed-out fit-again cut-anywhere
+    runs-from occurs replay-demand-3 power-demand-3 computed-form handed-out fit-again cut-anywhere cut-stops

@@ -1,3 +1,4 @@
+pub mod CutStops
 pub mod AtRuns
 pub mod Derived
 pub mod Chip

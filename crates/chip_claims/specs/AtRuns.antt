@@ -9,14 +9,15 @@ use lib.ListN.{length, getD, take, drop, replicate}
 use Rattle.power.specs.declared.Replayed.{Replayed}
 use Rattle.sample.specs.Run.{Part, partStep}
 use Rattle.twin.specs.Promises.{Replays}
-use Rattle.waves.specs.Waves.{Capture}
+use Rattle.waves.specs.Waves.{Capture, upTo}
 use Rattle.runs.specs.Runs.{afterCapture}
 use Rattle.ranges.specs.Fit.{Fit}
 use Rattle.reachable.specs.Reachable.{Lowers}
 use Rattle.demand2.specs.Demand2.{Joined}
 use Rattle.demand3.specs.Sending.{bitFrom}
 use Rattle.demand3.specs.Differ.{SplitAt, Unfetched, TwoParts}
-use Rattle.demand3_runs.specs.Occurs.{spot, left, right, farSpot, farLeft, farRight, readAt, readIt, unsetWrite, setWrite, cutRead, holdsOf}
+use Rattle.demand3_runs.specs.Occurs.{spot, left, right, farSpot, farLeft, farRight, readAt, readIt, unsetWrite, setWrite, cutWrite, cutAt, storedAt, cutRead, holdsOf}
+use Rattle.chip_claims.specs.CutStops.{Cancelled}
 use Rattle.chip_claims.specs.Demand3.{over}
 
 -- An answer row for a capture, before the replay (What goes in and what comes out).
@@ -29,7 +30,7 @@ Outcome c p r array′ row′ = Replays (p .state) (c .times) (c .levels) (p .ar
 
 -- Replays of the read differ first at sample 126, in SDA alone, and so they do above 0FFFh of an X4283; replays of the write come to the
 -- same; the read in two pieces is the read; from power-up the two parts are alike; and if the part holds SDA low where the read is cut off
--- after its third bit, it acknowledges or sends a 0 (demand 3).
+-- after its third bit, it acknowledges or sends a 0; the stop of the write that is cut cancels it (demand 3; request 2026-02).
 pub record AtRuns : Type 0 where
   pub read : (r q : Replayed) (xs ys said said₂ : List ℕ) → Outcome readIt left r xs said → Outcome readIt right q ys said₂
       → SplitAt 126 said said₂
@@ -49,3 +50,6 @@ pub record AtRuns : Type 0 where
   pub until : Unfetched spot (take 100 (readIt .times)) (take 100 (readIt .levels)) left right
   pub out : afterCapture cutRead left .state .device .talk .own ≡ bitFrom 2 0x4C
   pub stays : getD (afterCapture unsetWrite left .array) spot 0 ≡ 0x4C
+  -- the stop inside a byte, and another
+  pub cancelled : Cancelled 1 11 (afterCapture (upTo cutAt cutWrite) left) (partStep 1 11 (afterCapture (upTo cutAt cutWrite) left))
+  pub stored : getD (partStep 1 11 (afterCapture (upTo storedAt setWrite) left) .array) spot 0 ≡ 0x77

@@ -1,4 +1,4 @@
--- The bench cases P1 to P11 and the worked cases S1 to S23 under one claim: what a part that is powered up answers and holds after the
+-- The bench cases P1 to P11 and the worked cases S1 to S30 under one claim: what a part that is powered up answers and holds after the
 -- traffic of each case, which places a block code locks, the image of the paper and the empty text. No axiom is used.
 use Rattle.run_cases.proofs.RunCases.{p1, p5, p6, p7, p8, p9}
 use Rattle.lock_cases.proofs.LockCases.{p2, p3, p4, p4-larger, s10, s11, s12, s13, s24}
@@ -8,6 +8,7 @@ use Rattle.sheet_cases.proofs.LatchCases.{s6, s7, s8, s9}
 use Rattle.sheet_cases.proofs.BlockCases.{s14, s27}
 use Rattle.talk_cases.proofs.ResetCases.{s15, s16, s17, s18}
 use Rattle.talk_cases.proofs.TalkCases.{s19, s20, s21, s22, s23}
+use Rattle.talk_cases.proofs.CutCases.{s29, s30}
 use Rattle.image_cases.proofs.ImageCases.{p10, p11}
 use Rattle.claims.specs.BenchCases.{BenchCases}
 
@@ -55,4 +56,6 @@ bench-cases =
       s26 = s26;
       s27 = s27;
       s28 = s28;
+      s29 = s29;
+      s30 = s30;
     }

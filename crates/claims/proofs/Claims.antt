@@ -2,6 +2,7 @@
 use Rattle.demand2.proofs.Demand2.{demand-2}
 use Rattle.demand3_runs.proofs.Witness.{occurs}
 use Rattle.bent_steps.proofs.Bends.{bent-steps}
+use Rattle.chip_claims.proofs.CutStops.{cut-stops}
 use Rattle.chip_claims.proofs.Chip.{demand-3, replay-demand-3, power-demand-3, computed-form, reachable-states, handed-out, stays-fit, fit-again, cut-anywhere, at-runs}
 use Rattle.image_claims.proofs.Images.{round-trips, intel-trips, lengths, write-then-read, door-trip, tidies, tidy-twice, room-enough, at-paper}
 use Rattle.exactly.proofs.Exactly.{exactly}
@@ -40,6 +41,7 @@ claims =
       handed-out = handed-out;
       stays-fit = stays-fit;
       fit-again = fit-again;
+      cut-stops = cut-stops;
       at-runs = at-runs;
       round-trips = round-trips;
       intel-trips = intel-trips;

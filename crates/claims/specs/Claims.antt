@@ -5,6 +5,7 @@
 use Rattle.demand2.specs.Demand2.{Demand2}
 use Rattle.demand3_runs.specs.Occurs.{Occurs}
 use Rattle.bent_steps.specs.Bent.{BentSteps}
+use Rattle.chip_claims.specs.CutStops.{CutStops}
 use Rattle.chip_claims.specs.Demand3.{Demand3, ReplayDemand3, PowerDemand3, ComputedForm}
 use Rattle.chip_claims.specs.States.{ReachableStates, HandedOut, StaysFit, FitAgain, CutAnywhere}
 use Rattle.chip_claims.specs.AtRuns.{AtRuns}
@@ -40,6 +41,8 @@ pub record Claims : Type 0 where
   -- A part that passes refusals 4 and 5 passes them after any samples, and so after every accepted replay.
   pub stays-fit : StaysFit
   pub fit-again : FitAgain
+  -- A stop inside a byte cancels what the part had taken in; any other does its work.
+  pub cut-stops : CutStops
   -- The claims on the part, used at captures that were computed.
   pub at-runs : AtRuns
   -- A written image reads back the same: in every sound form of record, in Intel's, by the operations, through the door.

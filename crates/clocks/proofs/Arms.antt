@@ -15,14 +15,13 @@ use Rattle.ground.specs.declared.kinds.Kind.{Kind}
 use Rattle.part.specs.declared.state.Timers.{Timers}
 use Rattle.part.specs.declared.state.Watchdog.{Watchdog}
 use Rattle.part.specs.declared.state.Wire.{Wire}
-use Rattle.part.specs.declared.state.Control.{Control}
 use Rattle.part.specs.declared.state.Device.{Device}
 use Rattle.part.specs.declared.state.Load.{Load}
 use Rattle.part.specs.declared.state.State.{State}
 use Rattle.wire.specs.Sign.{pushed, wireOf}
 use Rattle.wire.specs.declared.Sign.{Sign}
 use Rattle.wire.specs.declared.Sign.the-variants.{Quiet, Start, Stop, Bit, Byte, Ninth}
-use Rattle.control.specs.Register.{orderBy, orderOf, carriedOut}
+use Rattle.control.specs.Register.{carriedOut}
 use Rattle.control.specs.declared.Order.the-variants.{Nothing}
 use Rattle.address.specs.Talk.{sendsIn}
 use Rattle.device.specs.Bytes.{byteOf, keptBy, keptOf, Fills}
@@ -31,6 +30,7 @@ use Rattle.ends.specs.Ends.{startedOf, stoppedOf, endedOf}
 use Rattle.levels.specs.Level.{sclOf, wpOf, pinBy}
 use Rattle.part.specs.State.{withWatchdog}
 use Rattle.sample.specs.Sample.{startOf, heardBy, writtenBy, stopOf, byteStep}
+use Rattle.sample.proofs.Stops.{no-order, calm-stop, calm-saved}
 use Rattle.clocks.specs.Goes.{partOf, movedOf}
 use Rattle.clocks.specs.Rooms.{Room, Begins, timersAt, baseOf, Tells}
 use Rattle.clocks.specs.Clocks.{wireAt, spokenOf, lineAt, seenAt, turnBy, fallenBy, fallenAt, cutAt, Comes, smallBy, Turned}
@@ -54,10 +54,6 @@ small-heard Start wp array s t w d m h = unlike (cc)
 small-heard (Stop n) wp array s t w d m h = unlike (cc)
 
 -- With nothing pending a stop ends talk as reset does.
-no-order : (wp : Bool) (c : Control) → c .pending ≡ false → orderOf wp c ≡ Nothing
-unfolding orderOf
-no-order wp c h = ap (λ (b : Bool). orderBy b (c .rwel) wp c) h
-
 stop-ends : (d : Device) → stoppedOf Nothing d ≡ endedOf d
 unfolding stoppedOf endedOf carriedOut
 stop-ends d = refl
@@ -136,8 +132,8 @@ module _ {s : State} {es ls array row₀ : List ℕ} {from base : ℕ} {t : Time
   stop-turn d′ c′ room i′ row′ k p h e r z f =
       carried g more (k .soon) d′ m c′ i′ row′ (ap (λ (o : Clocks). o .room) r ∙ z)
       (signed g more (k .soon) _ _ _ (k .good) (stop-seen (c .scl) (c .sda) _ _ (c .held) (c .bit) (c .bits) (c .shift) (k .shown))
-      (rw (r, z, p, e, no-order (wpOf (getD ls i 0)) (d .control) h, stop-ends (spokenOf d c)))
-      (rw e))
+      (calm-stop (c .bits) _ _ h e ∙ rw (r, z, p, e, no-order (wpOf (getD ls i 0)) (d .control) h, stop-ends (spokenOf d c)))
+      (calm-saved (c .bits) _ array e))
       (rw (ap (λ (o : Clocks). o .own) r) f)
 
   -- A start: the watchdog is loaded, and the time is counted anew.

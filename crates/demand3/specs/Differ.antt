@@ -16,7 +16,7 @@ use Rattle.ground.specs.Numbers.{pageSize}
 use Rattle.page.specs.Page.{pageOf, at, inPage}
 use Rattle.part.specs.declared.state.State.{State}
 use Rattle.wire.specs.declared.Sign.the-variants.{Quiet, Start, Stop, Bit, Byte, Ninth}
-use Rattle.sample.specs.Sample.{opensOf, Seen, unseen, sees, seenOf}
+use Rattle.sample.specs.Sample.{opensOf, leftOf, Seen, unseen, sees, seenOf}
 use Rattle.sample.specs.Run.{Part, partStep, runOf, answersOf}
 use Rattle.demand3.specs.Sending.{Sent, nothing, sends, sentOf, bitFrom}
 
@@ -62,12 +62,13 @@ sendsFrom a (sends b v n) = eqb b a
 abbrev pub fetches : ℕ → ℕ → ℕ → Part → Bool
 fetches a e level p = sendsFrom a (sentOf e level p nothing)
 
--- Only at a stop that is seen, and there if the address lies in the page written and its mark is set (Bytes on the wire, stop).
+-- Only at a stop that is seen, and there if the address lies in the page written and its mark is set in the load that the stop's bits
+-- left: a write that was cut covers nothing (Bytes on the wire, stop; request 2026-02).
 abbrev pub coversBy : Seen → ℕ → State → Bool
 coversBy unseen a s = false
 coversBy (sees Quiet) a s = false
 coversBy (sees Start) a s = false
-coversBy (sees (Stop n)) a s = eqb (pageOf (at a)) (pageOf (s .device .counter)) && getD (s .load .marks) (inPage (at a)) false
+coversBy (sees (Stop n)) a s = eqb (pageOf (at a)) (pageOf (s .device .counter)) && getD (leftOf n s .load .marks) (inPage (at a)) false
 coversBy (sees Bit) a s = false
 coversBy (sees (Byte v)) a s = false
 coversBy (sees (Ninth b)) a s = false

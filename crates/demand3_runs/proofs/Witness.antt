@@ -21,10 +21,11 @@ occurs =
       write = record { taken = refl; reached = refl; differ = refl; covered = refl; demanded = refl };
       unset = record { taken = refl; reached = refl; differ = refl; covered = refl; demanded = refl };
       locked = record { taken = refl; reached = refl; differ = refl; covered = refl; demanded = refl };
+      half = record { taken = refl; reached = refl; differ = refl; covered = refl; demanded = refl };
       before = record { taken = refl; reached = refl; differ = refl; covered = refl; demanded = refl };
       passed = record { taken = refl; reached = refl; differ = refl; covered = refl; demanded = refl };
       from = (refl, refl);
-      covering = (refl, refl);
+      covering = (refl, refl, refl);
       cut = record { taken = refl; reached = refl; differ = refl; covered = refl; demanded = refl };
       held = (refl, refl);
       far = set-equal-but (replicate (kindOf x4283 .size) 0xFF) farSpot 0x4C 0x5C;

@@ -12,7 +12,7 @@ use Rattle.sample.specs.Run.{Part, partStep}
 use Rattle.power.specs.Power.{atPower}
 use Rattle.demand3.specs.Sending.{nothing}
 use Rattle.demand3.specs.Differ.{When, never, sample, EqualBut, firstReach, firstDiff, firstCover, elsewhere, sentAfter, coversNone}
-use Rattle.waves.specs.Waves.{Capture, joined, upTo, after, brisk, wait, awake, pageWrite, registerWrite, readFrom}
+use Rattle.waves.specs.Waves.{Capture, joined, upTo, after, brisk, wait, awake, stop, clocks, sent, addressed, pageWrite, registerWrite, readFrom}
 use Rattle.runs.specs.Runs.{afterCapture, answersTo, Taken}
 use Rattle.demand3_runs.specs.Under.{Step, holdsFor}
 
@@ -76,7 +76,27 @@ unsetWrite = joined (awake ++ writeAndRead)
 abbrev pub setWrite : Capture
 setWrite = joined (awake ++ brisk (registerWrite 0 0x02) ∷ writeAndRead)
 
--- So many samples into that capture the byte has been fetched and its second bit is out.
+-- With WEL set, a byte is sent to the address and three bits of another, then the stop: the write is cut; after the write time the address is
+-- read (request 2026-02).
+abbrev pub cutWrite : Capture
+cutWrite =
+    joined
+    (awake
+    ++ brisk (registerWrite 0 0x02)
+    ∷ brisk (addressed 0 spot ++ sent 0x77 ++ clocks 3 0 ++ stop)
+    ∷ wait writeTime
+    ∷ brisk (readFrom 0 spot 1)
+    ∷ [])
+
+-- So many samples into that capture comes the stop.
+abbrev pub cutAt : ℕ
+cutAt = 239
+
+-- So many into the one that is not cut.
+abbrev pub storedAt : ℕ
+storedAt = 230
+
+-- So many samples into the read the byte has been fetched and its second bit is out.
 abbrev pub partWay : ℕ
 partWay = 121
 
@@ -130,11 +150,13 @@ pub record Occurs : Type 0 where
   pub write : RunsTo left right setWrite never (sample 230)
   pub unset : RunsTo left right unsetWrite (sample 241) never
   pub locked : RunsTo lockedLeft lockedRight setWrite (sample 355) never
+  -- a write that is cut covers nothing, and the read after it differs
+  pub half : RunsTo left right cutWrite (sample 364) never
   pub before : RunsTo (midway left) (midway right) (after partWay readIt) never never
   pub passed : RunsTo left right readThenWrite never (sample 375)
   -- what is being sent, and whether a write covers
   pub from : (elsewhereAfter cutRead ≡ false) × (elsewhereAfter (upTo 124 readOther) ≡ true)
-  pub covering : (uncoveredBy unsetWrite ≡ true) × (uncoveredBy setWrite ≡ false)
+  pub covering : (uncoveredBy unsetWrite ≡ true) × (uncoveredBy setWrite ≡ false) × (uncoveredBy cutWrite ≡ true)
   -- cut off before the unequal bit, the states differ in the byte being sent, and in nothing else by demand 3
   pub cut : RunsTo left right cutRead never never
   pub held : (stillHeld left cutRead ≡ 0x30) × (stillHeld right cutRead ≡ 0x70)

@@ -37,10 +37,10 @@ use Rattle.address.specs.Talk.{addressOf, matches}
 use Rattle.address.specs.Address.{slaveBy, slaveOf, highOf, addressBy, lowOf}
 use Rattle.device.specs.Bytes.{takenOf, dataBy, registerBy, byteIn, byteOf, keptOf}
 use Rattle.bits.specs.Bits.{bitIn, bitOf, answeredBy, ninthIn, ninthOf}
-use Rattle.ends.specs.Ends.{startedOf, stoppedOf, endedOf}
+use Rattle.ends.specs.Ends.{startedOf, cutsOff, controlLeft, stoppedOf, endedOf}
 use Rattle.levels.specs.Level.{sclOf, wpOf, vccOf}
 use Rattle.part.specs.State.{withTimers, withWire, withDevice, withLoad}
-use Rattle.sample.specs.Sample.{begun, latchedBy, opensOf, resetOf, startOf, stopOf, byteStep, heardBy, lineOf, signIn, wiredOf, Seen, unseen, sees, seenBy, seenOf, goesOnBy, stepOf}
+use Rattle.sample.specs.Sample.{begun, latchedBy, opensOf, resetOf, startOf, stopOf, leftOf, byteStep, heardBy, lineOf, signIn, wiredOf, Seen, unseen, sees, seenBy, seenOf, goesOnBy, stepOf}
 use Rattle.sample.proofs.Sampled.{array-length}
 use Rattle.sample.specs.Run.{Part, partStep, runOf}
 use Rattle.ranges.specs.Fit.{Fit}
@@ -179,11 +179,16 @@ kept : (s : State) → Within s → (t : Timers) (w : Wire) (d : Device) (l : Lo
 kept s g t w d l h b f =
     record { counter = f .0; bits = b; times = h; part = g .part; select = g .select; stored = f .1 }
 
+-- What a stop's bits leave of the register keeps the stored byte.
+left-stored : (cut : Bool) (c : Control) → storable (c .stored) ≡ true → storable (controlLeft cut c .stored) ≡ true
+left-stored true c h = h
+left-stored false c h = h
+
 -- Each sign keeps the ranges, on a wire as the sign says.
 heard-within : (sign : Sign) (wp : Bool) (array : List ℕ) (s : State) (w : Wire)
     → Saw sign (s .wire .frame .bits) (w .frame .bits) (w .lines .scl) → Within s
     → Within (heardBy sign wp array (withWire s w))
-unfolding startOf startedOf stopOf stoppedOf byteStep byteOf bitOf ninthOf
+unfolding startOf startedOf stopOf stoppedOf leftOf byteStep byteOf bitOf ninthOf
 heard-within Quiet wp array s w e g =
     kept s g (s .timers) w (s .device) (s .load) (g .times) (omega arith) (g .counter, g .stored)
 heard-within Start wp array s w e g =
@@ -196,15 +201,17 @@ heard-within Start wp array s w e g =
       stored = g .stored;
     }
 heard-within (Stop n) wp array s w e g =
+    let left : State = leftOf n s in
+    let order : Order = orderOf wp (left .device .control) in
     record {
       counter = g .counter;
       bits = omega arith;
-      times =
-          begun-times (takesTime (orderOf wp (s .device .control))) (begun (marked (s .load)) (s .timers))
-          (begun-times (marked (s .load)) (s .timers) (g .times));
+      times = begun-times (takesTime order) (begun (marked (left .load)) (s .timers)) (begun-times (marked (left .load)) (s .timers) (g .times));
       part = g .part;
       select = g .select;
-      stored = order-stored (orderOf wp (s .device .control)) (s .device .control) (g .stored);
+      stored =
+          order-stored order (left .device .control)
+          (left-stored (cutsOff (s .device .talk .phase) n) (s .device .control) (g .stored));
     }
 heard-within Bit wp array s w e g =
     kept s g (s .timers) w (bitOf (s .device)) (s .load) (g .times) (omega arith)
@@ -269,7 +276,7 @@ step-in-range e level array s h =
 
 -- Each sign leaves the part number as it was.
 heard-part : (sign : Sign) (wp : Bool) (array : List ℕ) (s : State) → heardBy sign wp array s .chip .part ≡ s .chip .part
-unfolding startOf stopOf byteStep
+unfolding startOf stopOf leftOf byteStep
 heard-part Quiet wp array s = refl
 heard-part Start wp array s = refl
 heard-part (Stop n) wp array s = refl

@@ -1,6 +1,6 @@
 -- What holds of every sample that a reachable part is given: no start and no stop while it holds SDA low, marks only in
 -- the counter's page, and SDA released where the sending of a byte ends. Assumes nothing.
-use Prim.Native.Nat.{ℕ, _<_}
+use Prim.Native.Nat.{ℕ, _<_, _≤_}
 use mathlib.Core.Bool.{Bool, true, false, true≢false, _&&_}
 use mathlib.Core.List.{List}
 use mathlib.Core.Path.{_≡_, refl, ap, sym, _∙_}
@@ -30,12 +30,14 @@ use Rattle.wire.specs.declared.Sign.the-variants.{Quiet, Start, Stop, Bit, Byte
 use Rattle.device.specs.Bytes.{takenOf, dataBy, byteIn, byteOf, keptBy, expectsData, keptOf}
 use Rattle.bits.specs.Bits.{bitIn, bitOf, ninthIn, ninthOf}
 use Rattle.bits.proofs.Phases.{bit-stays, ninth-releases}
-use Rattle.ends.specs.Ends.{startedOf, stoppedOf, endedOf}
+use Rattle.ends.specs.Ends.{startedOf, stoppedOf, endedOf, keepsForStop}
 use Rattle.levels.specs.Level.{sclOf, sdaOf, wpOf}
-use Rattle.sample.specs.Sample.{opensOf, resetOf, startOf, stopOf, byteStep, heardBy, lineOf, signIn, wiredOf, Seen, unseen, sees, seenBy, seenOf, goesOnBy, stepOf}
+use Rattle.sample.specs.Sample.{opensOf, resetOf, startOf, stopOf, leftOf, byteStep, heardBy, lineOf, signIn, wiredOf, Seen, unseen, sees, seenBy, seenOf, goesOnBy, stepOf}
 use Rattle.sample.specs.Run.{Part, partStep}
 use Rattle.ranges.proofs.Signs.{Saw, saw}
+use Rattle.ranges.proofs.InRange.{range-within}
 use Rattle.reachable.specs.Reachable.{Reachable, speaks, sendsNow, Holds}
+use Rattle.reachable.proofs.Kept.Acknowledges.{stop-bits}
 use Rattle.reachable.proofs.Kept.Steps.{Sits, low-line}
 use Rattle.reachable.proofs.Reachable.{Stands, reachable-stands, sends-now, now-sends}
 
@@ -127,10 +129,10 @@ module _ (k : Kind) (d : Device) (l : Load) (x : marked l ≡ true → d .talk .
 heard-stays : (sign : Sign) (wp : Bool) (array : List ℕ) (s : State)
     → (marked (s .load) ≡ true → s .device .talk .phase ≡ Data)
     → Stays (s .device .counter) (s .load) (heardBy sign wp array s .device .counter) (heardBy sign wp array s .load)
-unfolding startOf stopOf byteStep byteOf keptOf
+unfolding startOf stopOf leftOf byteStep byteOf keptOf
 heard-stays Quiet wp array s x = load-stays (kindOf (s .chip .part)) (s .device) (s .load) x (s .device .counter) (λ e. refl)
 heard-stays Start wp array s x = dropped-stays (s .device .counter) (startOf s .device .counter) (s .load)
-heard-stays (Stop n) wp array s x = dropped-stays (s .device .counter) (stopOf wp s .device .counter) (s .load)
+heard-stays (Stop n) wp array s x = dropped-stays (s .device .counter) (stopOf wp (leftOf n s) .device .counter) (s .load)
 heard-stays Bit wp array s x =
     load-stays (kindOf (s .chip .part)) (s .device) (s .load) x (bitOf (s .device) .counter) (λ e. rw (bit-stays (s .device) (cc)))
 heard-stays (Byte v) wp array s x =
@@ -201,7 +203,7 @@ heard-ends : (sign : Sign) (wp : Bool) (array : List ℕ) (s : State) (w : Wire)
     → Saw sign (s .wire .frame .bits) (w .frame .bits) (w .lines .scl)
     → speaks (s .device .talk .phase) ≡ true → s .wire .frame .bits < mostBits
     → Ends (heardBy sign wp array (withWire s w) .device .talk) (heardBy sign wp array (withWire s w) .wire .frame .bits)
-unfolding startOf startedOf stopOf stoppedOf byteStep bitOf byteOf ninthOf
+unfolding startOf startedOf stopOf stoppedOf leftOf byteStep bitOf byteOf ninthOf
 heard-ends Quiet wp array s w e a n = goes-on a (omega arith)
 heard-ends Start wp array s w e a n = releases refl
 heard-ends (Stop b) wp array s w e a n = releases refl
@@ -234,6 +236,19 @@ ended-released : (s : State) → Ends (s .device .talk) (s .wire .frame .bits) �
 ended-released s (goes-on a b) e = absurd (true≢false (sym (sends-now s a b) ∙ e))
 ended-released s (releases a) e = a
 
+-- A stop that is seen has not all eight bits of a byte committed that is kept for it: the part would hold SDA low.
+stop-within : (e level n : ℕ) (s : State) → Sits s → s .wire .frame .bits ≤ mostBits → keepsForStop (s .device .talk .phase) ≡ true
+    → signIn level (opensOf e level s) ≡ Stop n → n < mostBits
+unfolding signIn opensOf
+stop-within e level n s g b x f =
+    let t = stop-bits (s .wire) (sclOf level) (lineOf level s) n f in
+    go (eqb n mostBits) refl t
+  where
+    go : (y : Bool) → eqb n mostBits ≡ y → n ≡ s .wire .frame .bits → n < mostBits
+    go true y t =
+        absurd (true≢false (sym (ap isEnd f) ∙ held-inside e level s g (g .acks x (sym t ∙ eqb-true n mostBits y))))
+    go false y t = let z = eqb-false n mostBits y in omega arith
+
 -- So it is of every part that stands so.
 stands-holds : (p : Part) → Stands p → Holds p
 unfolding partStep
@@ -243,6 +258,7 @@ stands-holds p t =
       size = t .fit .size;
       start = λ e level o f. true≢false (sym (ap isEnd f) ∙ held-inside e level (p .state) g o);
       stop = λ e level n o f. true≢false (sym (ap isEnd f) ∙ held-inside e level (p .state) g o);
+      unacknowledged = λ e level n x f. stop-within e level n (p .state) g (range-within (p .state) (t .fit .range) .bits) x f;
       mark = λ e level i a b. step-stays e level (p .array) (p .state) (λ y. g .talks .opens y .phase) .mark i a b;
       page = λ e level m. step-stays e level (p .array) (p .state) (λ y. g .talks .opens y .phase) .page m;
       released = λ e level x y.

@@ -42,6 +42,7 @@ power-sits part select stored =
           (record { stored = stored; wel = false; rwel = false; chosen = false; pending = false; value = 0 }) refl (λ x. cc)
           refl refl;
       line = λ x y. cc;
+      acks = λ x y. absurd (omega arith);
     }
 
 -- At an accepted one, it is within the eight ranges.

@@ -13,10 +13,10 @@ use Rattle.device.specs.Bytes.{takenOf, byteOf, keptOf}
 use Rattle.bits.specs.Bits.{bitOf, ninthOf}
 use Rattle.ends.specs.Ends.{startedOf, stoppedOf, endedOf}
 use Rattle.levels.specs.Level.{answerOf}
-use Rattle.sample.specs.Sample.{opensOf, resetOf, startOf, stopOf, byteStep, signIn, seenOf, wiredOf, stepOf, arrayOf}
+use Rattle.sample.specs.Sample.{opensOf, resetOf, startOf, stopOf, leftOf, byteStep, signIn, seenOf, wiredOf, stepOf, arrayOf}
 use Rattle.sample.specs.Run.{partStep}
 use Rattle.power.specs.Power.{poweredUp}
 
 unfoldable pub opened : ℕ
-unfolding inRange judgedOf kindOf extentOf lockedOf storeOf loadedOf timedOf suppliedOf fallSign fallFrame signOf wireOf orderOf carriedOut slaveOf highOf lowOf takenOf byteOf keptOf bitOf ninthOf startedOf stoppedOf endedOf answerOf opensOf resetOf startOf stopOf byteStep signIn seenOf wiredOf stepOf arrayOf partStep poweredUp
+unfolding inRange judgedOf kindOf extentOf lockedOf storeOf loadedOf timedOf suppliedOf fallSign fallFrame signOf wireOf orderOf carriedOut slaveOf highOf lowOf takenOf byteOf keptOf bitOf ninthOf startedOf stoppedOf endedOf answerOf opensOf resetOf startOf stopOf leftOf byteStep signIn seenOf wiredOf stepOf arrayOf partStep poweredUp
 opened = 0

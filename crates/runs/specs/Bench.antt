@@ -2,8 +2,10 @@
 -- paper's numbers are written out here and in the cases and are not those that the sheet names, so that a case tests the sheet (document 01,
 -- Bench cases).
 use Prim.Native.Nat.{ℕ, _-_, _%_}
+use mathlib.Core.Bool.{Bool, false}
 use mathlib.Core.List.{List, [], _∷_}
 use lib.ListN.{length, drop, replicate}
+use Rattle.part.specs.declared.state.Control.{Control}
 use Rattle.power.specs.Power.{atPower}
 use Rattle.sample.specs.Run.{Part}
 use Rattle.waves.specs.Waves.{Capture, joined, wait, pageWrite}
@@ -40,6 +42,10 @@ opening = wait 0 ∷ wait 100000 ∷ wait 100000 ∷ []
 -- A register write of one byte, at the address FFFFh (Bytes on the wire, write; Control register, at a stop after one byte).
 abbrev pub registerByte : ℕ → List ℕ
 registerByte v = pageWrite 0 0xFFFF (v ∷ [])
+
+-- The register with a stored byte and the latches WEL and RWEL, not chosen and nothing pending (Control register).
+abbrev pub holds : ℕ → Bool → Bool → Control
+holds stored wel rwel = record { stored = stored; wel = wel; rwel = rwel; chosen = false; pending = false; value = 0 }
 
 -- The last so many answers of a row.
 abbrev pub lastAnswers : ℕ → List ℕ → List ℕ

@@ -12,7 +12,7 @@ use Rattle.page.proofs.Stored.{store-length}
 use Rattle.wire.specs.declared.Sign.{Sign}
 use Rattle.wire.specs.declared.Sign.the-variants.{Quiet, Start, Stop, Bit, Byte, Ninth}
 use Rattle.levels.specs.Level.{wpOf}
-use Rattle.sample.specs.Sample.{opensOf, resetOf, heardBy, savedBy, writtenBy, signIn, wiredOf, Seen, unseen, sees, seenBy, seenOf, goesOnBy, stepOf, keepsBy, arrayOf}
+use Rattle.sample.specs.Sample.{opensOf, resetOf, leftOf, heardBy, savedBy, writtenBy, signIn, wiredOf, Seen, unseen, sees, seenBy, seenOf, goesOnBy, stepOf, keepsBy, arrayOf}
 
 module _ (e level : ℕ) (array : List ℕ) (s : State) where
   -- With reset inactive the state is what the sign seen makes of it.
@@ -46,7 +46,7 @@ saved-length false p l array = refl
 pub written-length : (sign : Sign) (s : State) (array : List ℕ) → length (writtenBy sign s array) ≡ length array
 written-length Quiet s array = refl
 written-length Start s array = refl
-written-length (Stop n) s array = saved-length (marked (s .load)) (s .device .counter) (s .load) array
+written-length (Stop n) s array = saved-length (marked (leftOf n s .load)) (leftOf n s .device .counter) (leftOf n s .load) array
 written-length Bit s array = refl
 written-length (Byte v) s array = refl
 written-length (Ninth b) s array = refl

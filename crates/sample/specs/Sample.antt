@@ -20,7 +20,7 @@ use Rattle.control.specs.Register.{orderOf, takesTime}
 use Rattle.control.specs.declared.Order.{Order}
 use Rattle.device.specs.Bytes.{byteOf, keptOf}
 use Rattle.bits.specs.Bits.{bitOf, ninthOf}
-use Rattle.ends.specs.Ends.{startedOf, stoppedOf, endedOf}
+use Rattle.ends.specs.Ends.{startedOf, cutsOff, controlLeft, stoppedOf, endedOf}
 use Rattle.levels.specs.Level.{sclOf, sdaOf, wpOf, vccOf}
 
 -- The timers with a write cycle begun, or as they were (Bytes on the wire, stop; Control register, RWEL high).
@@ -68,6 +68,19 @@ stopBy order s =
 unfoldable pub stopOf : Bool → State → State
 stopOf wp s = stopBy (orderOf wp (s .device .control)) s
 
+-- The load as a stop finds it: one that cuts a byte off cancels it whole (Bytes on the wire, stop; request 2026-02).
+abbrev pub loadLeft : Bool → Load → Load
+loadLeft true l = emptyLoad
+loadLeft false l = l
+
+-- What is left of the state by whether a stop cut a byte off: load and pending byte are cancelled together (request 2026-02).
+abbrev pub leftBy : Bool → State → State
+leftBy cut s = withLoad (withDevice s (withControl (s .device) (controlLeft cut (s .device .control)))) (loadLeft cut (s .load))
+
+-- The state that a stop with n committed bits acts on (Bytes on the wire, stop; Control register; request 2026-02).
+unfoldable pub leftOf : ℕ → State → State
+leftOf n s = leftBy (cutsOff (s .device .talk .phase) n) s
+
 -- A byte changes the device and the load (Bytes on the wire).
 unfoldable pub byteStep : ℕ → State → State
 byteStep v s =
@@ -75,11 +88,11 @@ byteStep v s =
     (withDevice s (byteOf (kindOf (s .chip .part)) (s .chip .select) (s .device) v))
     (keptOf (kindOf (s .chip .part)) (s .device) v (s .load))
 
--- What each sign does to the state; the bits before a stop do not matter to it (Bytes on the wire; Control register).
+-- What each sign does to the state; a stop acts on what its bits left (Bytes on the wire; Control register; request 2026-02).
 abbrev pub heardBy : Sign → Bool → List ℕ → State → State
 heardBy Quiet wp array s = s
 heardBy Start wp array s = startOf s
-heardBy (Stop n) wp array s = stopOf wp s
+heardBy (Stop n) wp array s = stopOf wp (leftOf n s)
 heardBy Bit wp array s = withDevice s (bitOf (s .device))
 heardBy (Byte v) wp array s = byteStep v s
 heardBy (Ninth b) wp array s = withDevice s (ninthOf (kindOf (s .chip .part)) array b (s .device))
@@ -89,11 +102,15 @@ abbrev pub savedBy : Bool → Place → Load → List ℕ → List ℕ
 savedBy true p l array = storeOf p l array
 savedBy false p l array = array
 
--- What each sign does to the array: only a stop writes it (Bytes on the wire, stop).
+-- The same of a state's load, at its counter (Bytes on the wire, stop).
+abbrev pub savedOf : State → List ℕ → List ℕ
+savedOf s array = savedBy (marked (s .load)) (s .device .counter) (s .load) array
+
+-- What each sign does to the array: only a stop writes it, with the load that its bits left (Bytes on the wire, stop; request 2026-02).
 abbrev pub writtenBy : Sign → State → List ℕ → List ℕ
 writtenBy Quiet s array = array
 writtenBy Start s array = array
-writtenBy (Stop n) s array = savedBy (marked (s .load)) (s .device .counter) (s .load) array
+writtenBy (Stop n) s array = savedOf (leftOf n s) array
 writtenBy Bit s array = array
 writtenBy (Byte v) s array = array
 writtenBy (Ninth b) s array = array

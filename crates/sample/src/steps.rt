@@ -10,7 +10,7 @@ use part::state::Timers;
 use part::state::Wire;
 use wire::Sign;
 ghost use mathlib.Core.Path.{_≡_};
-ghost use Rattle.sample.specs.Sample.{begun, latchedBy, opensOf, resetOf, startOf, byteStep};
+ghost use Rattle.sample.specs.Sample.{begun, latchedBy, opensOf, resetOf, startOf, loadLeft, leftOf, byteStep};
 ghost use Rattle.sample.specs.Promises.{Steps, Hears, Saves};
 
 // Low VCC clears both latches.
@@ -103,18 +103,46 @@ fn save(array: &mut [u8], place: Place, load: Load) -> bool
     false
 }
 
-// A stop, whatever bits were committed before it.
+// The load that a stop finds, which may have cut a byte off.
+fn load_left(cut: bool, load: Load) -> Load
+    ensures { λ r. ⌜ r ≡ loadLeft cut load ⌝ }
+{
+    if cut {
+        return page::empty();
+    }
+    load
+}
+
+// The state that a stop with so many committed bits acts on.
+fn left(s: State, bits: u8) -> State
+    ensures { λ r. ⌜ r ≡ leftOf bits s ⌝ }
+{
+    let mut device = s.device;
+    let talk = device.talk;
+    let phase = talk.phase;
+    let cut = ends::cuts_off(phase, bits);
+    let control = ends::left(cut, device.control);
+    let load = load_left(cut, s.load);
+    device.control = control;
+    let mut next = s;
+    next.device = device;
+    next.load = load;
+    next
+}
+
+// A stop: what its bits left is done.
 fn stop(s: State, bits: u8, wp: bool, array: &mut [u8]) -> State
     ensures { λ r. ⌜ Hears (Sign.Stop bits) wp s (now (array .entry)) r (now (array .exit)) ⌝ }
 {
-    let device = s.device;
+    let found = left(s, bits);
+    let device = found.device;
     let order = control::order_of(wp, device.control);
-    let saved = save(array, device.counter, s.load);
-    let timed = began(saved, s.timers);
+    let saved = save(array, device.counter, found.load);
+    let timed = began(saved, found.timers);
     let times = began(control::takes_time(order), timed);
     let stopped = ends::stop(order, device);
     let load = page::empty();
-    let mut next = s;
+    let mut next = found;
     next.timers = times;
     next.device = stopped;
     next.load = load;

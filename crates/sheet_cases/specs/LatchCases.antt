@@ -1,17 +1,13 @@
 -- Worked cases of the latches and of WP (document 01, State and time, 2; Control register), said of a part that has just been powered up
 -- with select 0 and an array all FFh. Every number is the paper's, written out.
 use Prim.Native.Nat.{ℕ, _+_}
-use mathlib.Core.Bool.{Bool, true, false}
+use mathlib.Core.Bool.{true, false}
 use mathlib.Core.List.{List, [], _∷_, _++_}
 use mathlib.Core.Path.{_≡_}
 use lib.ListN.{replicate}
 use Rattle.part.specs.declared.state.Control.{Control}
 use Rattle.waves.specs.Waves.{Capture, brisk, pageWrite, addressed, sent}
-use Rattle.runs.specs.Bench.{blankPart, partAt, answersAt, AcceptedAt, opening, registerByte, lastAnswers}
-
--- The register with a stored byte and the latches WEL and RWEL, not chosen and nothing pending (Control register).
-abbrev pub holds : ℕ → Bool → Bool → Control
-holds stored wel rwel = record { stored = stored; wel = wel; rwel = rwel; chosen = false; pending = false; value = 0 }
+use Rattle.runs.specs.Bench.{blankPart, partAt, answersAt, AcceptedAt, opening, registerByte, holds, lastAnswers}
 
 -- The register of a part with a stored byte after captures.
 abbrev pub controlAt : ℕ → ℕ → List Capture → Control

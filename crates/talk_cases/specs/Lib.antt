@@ -1,2 +1,3 @@
+pub mod CutCases
 pub mod ResetCases
 pub mod TalkCases

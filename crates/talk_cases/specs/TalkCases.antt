@@ -26,7 +26,7 @@ halfThenStart = talked (start ++ clocks 4 0xA ++ again ++ sent 0xA0)
 abbrev pub halfThenStop : List Capture
 halfThenStop = talked (start ++ clocks 4 0xA ++ stop ++ start ++ sent 0xA0)
 
--- 02h, then 5Ah to 000h, seven bits of another byte and the stop (Bytes on the wire, stop).
+-- 02h, then 5Ah to 000h, seven bits of another byte and the stop: a byte cut short, which cancels the load (request 2026-02).
 abbrev pub sevenBits : List Capture
 sevenBits = opening ++ brisk (registerByte 0x02) ∷ brisk (addressed 0 0x000 ++ sent 0x5A ++ clocks 7 0x7F ++ stop) ∷ []
 
@@ -49,7 +49,7 @@ pub record S19 : Type 0 where
   pub accepted : AcceptedAt (blankPart 4323 0) riseAndFall × AcceptedAt (blankPart 4323 0) bothFall × AcceptedAt (blankPart 4323 0) lowThrough
   pub started : ninth halfThenStart ≡ 2 ∷ 2 ∷ 2 ∷ 3 ∷ []
   pub stopped : ninth halfThenStop ≡ 2 ∷ 2 ∷ 2 ∷ 3 ∷ []
-  pub unfinished : partAt (blankPart 4323 0) sevenBits .array ≡ 0x5A ∷ replicate 4095 0xFF
+  pub unfinished : partAt (blankPart 4323 0) sevenBits .array ≡ replicate 4096 0xFF
   pub clean : partAt (blankPart 4323 0) (talked (start ++ clocks 4 0xA ++ stop)) .state .wire .frame
       ≡ record { held = false; bit = false; bits = 0; shift = 0 }
   pub rises : ninth riseAndFall ≡ 3 ∷ 3 ∷ 3 ∷ 3 ∷ []

@@ -15,12 +15,12 @@ use Rattle.ground.proofs.Tests.{and-split}
 use Rattle.page.proofs.Stored.{store-length, store-at}
 use Rattle.wire.specs.declared.Sign.{Sign}
 use Rattle.wire.specs.declared.Sign.the-variants.{Quiet, Start, Stop, Bit, Byte, Ninth}
-use Rattle.sample.specs.Sample.{opensOf, savedBy, writtenBy, wiredOf, Seen, unseen, sees, seenOf, keepsBy, arrayOf}
+use Rattle.sample.specs.Sample.{opensOf, leftOf, savedBy, writtenBy, wiredOf, Seen, unseen, sees, seenOf, keepsBy, arrayOf}
 use Rattle.sample.specs.Run.{Part, partStep, runOf}
 use Rattle.demand3.specs.Differ.{coversBy, covers, coversNone, FullLoad}
-use Rattle.demand3.proofs.Sent.TwoArrays.{whole-kept}
+use Rattle.demand3.proofs.Sent.TwoArrays.{left-whole, whole-kept}
 
-module _ (a e level : ℕ) (s : State) (w : FullLoad s) (xs : List ℕ) where
+module _ (a : ℕ) (s : State) (w : FullLoad s) (xs : List ℕ) where
   -- A store that does not cover the address leaves its byte.
   saved-stays : (b : Bool) (p : Place)
       → (eqb (pageOf (at a)) (pageOf p) && getD (s .load .marks) (inPage (at a)) false) ≡ false
@@ -35,13 +35,14 @@ module _ (a e level : ℕ) (s : State) (w : FullLoad s) (xs : List ℕ) where
           let k : length (storeOf p (s .load) xs) ≤ a = omega (arith, store-length p (s .load) xs) in
           List·getD-eq-default (storeOf p (s .load) xs) 0 k ∙ sym (List·getD-eq-default xs 0 h)
 
+module _ (a e level : ℕ) (s : State) (w : FullLoad s) (xs : List ℕ) where
   -- So does a sign whose write does not cover it.
   written-stays : (sign : Sign) → coversBy (sees sign) a s ≡ false
       → getD (writtenBy sign (wiredOf level (opensOf e level s)) xs) a 0 ≡ getD xs a 0
-  unfolding wiredOf opensOf
+  unfolding wiredOf opensOf leftOf
   written-stays Quiet c = refl
   written-stays Start c = refl
-  written-stays (Stop n) c = saved-stays (marked (s .load)) (s .device .counter) c
+  written-stays (Stop n) c = saved-stays a (leftOf n s) (left-whole n s w) xs (marked (leftOf n s .load)) (s .device .counter) c
   written-stays Bit c = refl
   written-stays (Byte v) c = refl
   written-stays (Ninth b) c = refl

@@ -27,7 +27,7 @@ use Rattle.device.specs.Bytes.{byteOf, keptOf}
 use Rattle.bits.specs.Bits.{bitOf, fetch, ninthIn, ninthOf}
 use Rattle.ends.specs.Ends.{startedOf, stoppedOf, endedOf}
 use Rattle.levels.specs.Level.{sclOf, wpOf}
-use Rattle.sample.specs.Sample.{opensOf, resetOf, startOf, stopOf, byteStep, heardBy, lineOf, signIn, wiredOf, sees, seenBy, seenOf, goesOnBy, stepOf}
+use Rattle.sample.specs.Sample.{opensOf, resetOf, startOf, stopOf, leftOf, byteStep, heardBy, lineOf, signIn, wiredOf, sees, seenBy, seenOf, goesOnBy, stepOf}
 use Rattle.sample.specs.Run.{Part}
 use Rattle.demand3.specs.Sending.{Sent, nothing, sends, sendsArray, fetchedBy, nextSent, sentBy, sentOf, bitFrom}
 use Rattle.demand3.specs.Differ.{elsewhere, EqualBut}
@@ -191,7 +191,7 @@ module _ {a : ℕ} {xs ys : List ℕ} (but : EqualBut a xs ys)
       → Beside a (heardBy sign wp xs (sendingState c b (shifted n v))) (heardBy sign wp ys (sendingState c b (shifted n w)))
       (sentBy (sees sign) xs (withControl (sendingState c b (shifted n v) .device) m) (sends a v n))
       (sentBy (sees sign) ys (withControl (sendingState c b (shifted n w) .device) m) (sends a w n))
-  unfolding ninthOf bitOf byteStep byteOf keptOf startOf stopOf startedOf stoppedOf
+  unfolding ninthOf bitOf byteStep byteOf keptOf startOf stopOf leftOf startedOf stoppedOf
   heard-apart Quiet wp c m i =
       apart record {
         base = c;

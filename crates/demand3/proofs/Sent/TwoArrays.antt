@@ -26,7 +26,8 @@ use Rattle.wire.specs.declared.Sign.{Sign}
 use Rattle.wire.specs.declared.Sign.the-variants.{Quiet, Start, Stop, Bit, Byte, Ninth}
 use Rattle.device.specs.Bytes.{takenOf, keptBy, expectsData, keptOf}
 use Rattle.levels.specs.Level.{wpOf}
-use Rattle.sample.specs.Sample.{opensOf, resetOf, startOf, stopOf, byteStep, heardBy, savedBy, writtenBy, signIn, wiredOf, Seen, unseen, sees, seenOf, goesOnBy, stepOf, keepsBy, arrayOf}
+use Rattle.ends.specs.Ends.{cutsOff}
+use Rattle.sample.specs.Sample.{opensOf, resetOf, startOf, stopOf, loadLeft, leftOf, byteStep, heardBy, savedBy, writtenBy, signIn, wiredOf, Seen, unseen, sees, seenOf, goesOnBy, stepOf, keepsBy, arrayOf}
 use Rattle.demand3.specs.Differ.{coversBy, covers, EqualBut, FullLoad}
 
 -- A mark that is set is one of the marks.
@@ -86,12 +87,25 @@ module _ (s : State) (whole : FullLoad s) where
           ∙ sym (rw c at (store-at p (s .load) ys (at a) (whole .marks) (whole .bytes) l)))
       go i false t h = saved-kept true p e .others i (eqb-false i a t)
 
+-- What a stop's bits leave of a load is whole.
+left-by : (cut : Bool) (l : Load) → (length (l .bytes) ≡ pageSize) × (length (l .marks) ≡ pageSize)
+    → (length (loadLeft cut l .bytes) ≡ pageSize) × (length (loadLeft cut l .marks) ≡ pageSize)
+left-by true l w = (refl, refl)
+left-by false l w = w
+
+-- So is that of a state.
+pub left-whole : (n : ℕ) (s : State) → FullLoad s → FullLoad (leftOf n s)
+unfolding leftOf
+left-whole n s w =
+    let l = left-by (cutsOff (s .device .talk .phase) n) (s .load) (w .bytes, w .marks) in
+    record { bytes = l .0; marks = l .1 }
+
 -- Arrays equal but for an address stay so, whatever the sign.
 written-kept : {a : ℕ} {xs ys : List ℕ} (sign : Sign) (s : State) → FullLoad s → EqualBut a xs ys
     → EqualBut a (writtenBy sign s xs) (writtenBy sign s ys)
 written-kept Quiet s w e = e
 written-kept Start s w e = e
-written-kept (Stop n) s w e = saved-kept s w (marked (s .load)) (s .device .counter) e
+written-kept (Stop n) s w e = saved-kept (leftOf n s) (left-whole n s w) (marked (leftOf n s .load)) (leftOf n s .device .counter) e
 written-kept Bit s w e = e
 written-kept (Byte v) s w e = e
 written-kept (Ninth b) s w e = e
@@ -116,10 +130,10 @@ module _ {a : ℕ} {xs ys : List ℕ} (e level : ℕ) (s : State) (w : FullLoad 
   -- A sign whose write covers the address makes the arrays equal.
   written-equal : (sign : Sign) → coversBy (sees sign) a s ≡ true
       → writtenBy sign (wiredOf level (opensOf e level s)) xs ≡ writtenBy sign (wiredOf level (opensOf e level s)) ys
-  unfolding wiredOf opensOf
+  unfolding wiredOf opensOf leftOf
   written-equal Quiet c = absurd (true≢false (sym c))
   written-equal Start c = absurd (true≢false (sym c))
-  written-equal (Stop n) c = saved-equal s w (s .device .counter) but c
+  written-equal (Stop n) c = saved-equal (leftOf n s) (left-whole n s w) (s .device .counter) but c
   written-equal Bit c = absurd (true≢false (sym c))
   written-equal (Byte v) c = absurd (true≢false (sym c))
   written-equal (Ninth b) c = absurd (true≢false (sym c))
@@ -143,7 +157,7 @@ silenced s = withDevice s (withTalk (s .device) (withOut (s .device .talk) 0))
 written-silent : (sign : Sign) (e level : ℕ) (s : State) (xs : List ℕ)
     → writtenBy sign (wiredOf level (opensOf e level s)) xs
     ≡ writtenBy sign (wiredOf level (opensOf e level (silenced s))) xs
-unfolding wiredOf opensOf
+unfolding wiredOf opensOf leftOf
 written-silent Quiet e level s xs = refl
 written-silent Start e level s xs = refl
 written-silent (Stop n) e level s xs = refl

@@ -27,21 +27,10 @@ use Rattle.part.specs.State.{withChosen, withTalk}
 use Rattle.address.specs.Talk.{acknowledged, rested, sending, released, addressOf, matches}
 use Rattle.address.specs.Address.{slaveBy, slaveOf, highOf, addressBy, lowOf}
 use Rattle.device.specs.Bytes.{takenOf, dataBy, registerBy, byteIn, byteOf, keptBy, expectsData, keptOf}
+use Rattle.ends.specs.Ends.{keepsForStop}
 use Rattle.bits.specs.Bits.{bitIn, bitOf, answeredBy, ninthIn, ninthOf}
 use Rattle.reachable.specs.Reachable.{waits, speaks}
 use Rattle.reachable.proofs.Kept.Talks.{Voice, rests, answers, sends, Pends, Talks, still, voice-stays, voice-released, whole-filled}
-
--- The two phases that take data, for the array or for the register.
-abbrev takes : Phase → Bool
-takes Idle = false
-takes Silent = false
-takes Slave = false
-takes High = false
-takes Low = false
-takes Data = true
-takes Register = true
-takes Send = false
-takes SendRegister = false
 
 module _ (k : Kind) (n m : ℕ) (d : Device) (l : Load) (g : Talks k n d l) where
   -- A device that stays in a phase that sends nothing, no acknowledge under way, while the bits go on.
@@ -55,7 +44,7 @@ module _ (k : Kind) (n m : ℕ) (d : Device) (l : Load) (g : Talks k n d l) wher
       }
 
   -- A talk that turns from a phase that takes no data leaves no byte pending and no mark.
-  turned : (t : Talk) (p : Place) (b : Bool) → takes (d .talk .phase) ≡ false → (t .phase ≡ Register → b ≡ true)
+  turned : (t : Talk) (p : Place) (b : Bool) → keepsForStop (d .talk .phase) ≡ false → (t .phase ≡ Register → b ≡ true)
       → Voice t m → Talks k m (record { talk = t; counter = p; control = withChosen (d .control) b }) l
   turned t p b x z v =
       record {
@@ -66,11 +55,11 @@ module _ (k : Kind) (n m : ℕ) (d : Device) (l : Load) (g : Talks k n d l) wher
       }
 
   -- So does one that turns to such a phase with the counter and the choice staying.
-  turns : (t : Talk) → takes (d .talk .phase) ≡ false → takes (t .phase) ≡ false → Voice t m → Talks k m (withTalk d t) l
+  turns : (t : Talk) → keepsForStop (d .talk .phase) ≡ false → keepsForStop (t .phase) ≡ false → Voice t m → Talks k m (withTalk d t) l
   turns t x y v = turned t (d .counter) (d .control .chosen) x (λ e. cc) v
 
   -- The part falls silent.
-  hushed : takes (d .talk .phase) ≡ false → Talks k m (withTalk d (rested Silent)) l
+  hushed : keepsForStop (d .talk .phase) ≡ false → Talks k m (withTalk d (rested Silent)) l
   hushed x = turns (rested Silent) x refl (still (rested Silent) m refl refl refl)
 
   -- A bit, by phase.

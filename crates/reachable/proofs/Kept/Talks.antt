@@ -86,15 +86,15 @@ fresh k n p c r h x y z =
       whole = record { bytes = refl; marks = refl; empty = λ e. refl };
     }
 
-module _ (k : Kind) (n m : ℕ) (d : Device) (l : Load) (g : Talks k n d l) where
+module _ (k : Kind) (n : ℕ) (d : Device) where
   -- After a start.
-  pub start-talks : (writing : Bool) → Talks k m (startedOf writing d) emptyLoad
+  pub start-talks : (writing : Bool) → Talks k n (startedOf writing d) emptyLoad
   unfolding startedOf
-  start-talks true = fresh k m Silent (d .counter) (nonePends (d .control)) refl (λ e. cc) refl refl
-  start-talks false = fresh k m Slave (d .counter) (nonePends (d .control)) refl (λ e. cc) refl refl
+  start-talks true = fresh k n Silent (d .counter) (nonePends (d .control)) refl (λ e. cc) refl refl
+  start-talks false = fresh k n Slave (d .counter) (nonePends (d .control)) refl (λ e. cc) refl refl
 
   -- After a stop.
-  pub stop-talks : (order : Order) → Talks k m (stoppedOf order d) emptyLoad
+  pub stop-talks : (order : Order) → Talks k n (stoppedOf order d) emptyLoad
   unfolding stoppedOf
   stop-talks order =
-      fresh k m Idle (d .counter) (dropped (carriedOut order (d .control))) refl (λ e. cc) refl refl
+      fresh k n Idle (d .counter) (dropped (carriedOut order (d .control))) refl (λ e. cc) refl refl

@@ -4,6 +4,9 @@ use borrow.Author.Needs.{needs}
 use Rattle.sample.proofs.steps.stop.Statement.{statement}
 use Rattle.sample.proofs.steps.stop.Tie as tie
 
+left-requires : tie.Need-left-requires
+left-requires c κs = search needs
+
 order-of-requires : tie.Need-order-of-requires
 order-of-requires c κs = search needs
 
@@ -32,14 +35,15 @@ returns : tie.Need-returns
 unfolding stopOf
 returns c =
     record {
-      state = rw (c .empty .ensures, c .before .stop .ensures, c .before .before .began2 .ensures, c .before .before .before .takes-time .ensures, c .before .before .before .before .began .ensures, c .before .before .before .before .before .before .before .save .ensures .wrote, c .before .before .before .before .before .before .before .before .before .order-of .ensures);
-      kept = c .before .before .before .before .before .before .before .save .ensures .kept;
+      state = rw (← c .before .before .before .before .before .before .before .before .before .before .before .left .ensures, c .empty .ensures, c .before .stop .ensures, c .before .before .began2 .ensures, c .before .before .before .takes-time .ensures, c .before .before .before .before .began .ensures, c .before .before .before .before .before .before .before .save .ensures .wrote, c .before .before .before .before .before .before .before .before .before .order-of .ensures);
+      kept = rw (← c .before .before .before .before .before .before .before .before .before .before .before .left .ensures) (c .before .before .before .before .before .before .before .save .ensures .kept);
     }
 
 pub stop-spec : {M : Type 1} → statement M
 stop-spec =
     tie.close
     (tie.spec
+    left-requires
     order-of-requires
     save-requires
     began-requires
