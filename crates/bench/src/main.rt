@@ -4,9 +4,12 @@ use form::headers::Header;
 use form::words;
 use libc::STDIN_FILENO;
 use libc::STDOUT_FILENO;
+use replies::Tail;
 use rooms::Lengths;
 use trials::cases;
 use trials::cases::Said;
+ghost use Prim.Native.Nat.{_≤_};
+ghost use lib.ListN.{length};
 
 // Fills a row from the input, and answers whether there was enough of it.
 fn fill(row: &mut [u8]) -> bool {
@@ -18,13 +21,24 @@ fn write(row: &[u8]) -> bool {
     io::write_all(STDOUT_FILENO, row)
 }
 
+// Writes as much of the tail as there is.
+fn write_tail(tail: Tail) -> bool
+    requires { ⌜ tail .length ≤ length (tail .bytes) ⌝ }
+{
+    let bytes = tail.bytes;
+    let length = tail.length;
+    write(&bytes[..length])
+}
+
 // Writes a reply; that of a refused power-up ends after its number and place.
-fn write_reply(said: Said, array: &[u8], answers: &[u8]) -> bool {
+fn write_reply(said: Said, array: &[u8], answers: &[u8]) -> bool
+    requires { ⌜ said .tail .length ≤ length (said .tail .bytes) ⌝ }
+{
     let opening = said.opening;
     if write(&opening) {
         if said.ran {
             let closing = said.closing;
-            return write(answers) && write(array) && write(&closing);
+            return write(answers) && write(array) && write(&closing) && write_tail(said.tail);
         }
         return true;
     }
@@ -83,26 +97,46 @@ fn lend(
     false
 }
 
+// Serves the case of a whole header; false where its rows are cut off or too long.
+fn serve(header: Header) -> bool {
+    let mut array = rooms::array_room();
+    let mut raw = rooms::raw_room();
+    let mut elapsed = rooms::elapsed_room();
+    let mut levels = rooms::row_room();
+    let mut answers = rooms::row_room();
+    lend(
+        header,
+        &mut array,
+        &mut raw,
+        &mut elapsed,
+        &mut levels,
+        &mut answers,
+    )
+}
+
+// Sixteen words of a header from the input; false where there are not as many.
+fn fill_words(row: &mut [u32; 16]) -> bool {
+    let mut bytes = [0u8; 64];
+    if fill(&mut bytes) {
+        words::decode(&bytes, row);
+        return true;
+    }
+    false
+}
+
 // Serves one case; false where the input has no more, or the case is cut off or too long.
 fn serve_one() -> bool {
-    let mut header_bytes = [0u8; 64];
-    if fill(&mut header_bytes) {
-        let mut header_words = [0u32; 16];
-        words::decode(&header_bytes, &mut header_words);
-        let header = headers::header_of(&header_words);
-        let mut array = rooms::array_room();
-        let mut raw = rooms::raw_room();
-        let mut elapsed = rooms::elapsed_room();
-        let mut levels = rooms::row_room();
-        let mut answers = rooms::row_room();
-        return lend(
-            header,
-            &mut array,
-            &mut raw,
-            &mut elapsed,
-            &mut levels,
-            &mut answers,
-        );
+    let mut first = [0u32; 16];
+    if fill_words(&mut first) {
+        let header = headers::header_of(&first);
+        if header.long {
+            let mut further = [0u32; 16];
+            if fill_words(&mut further) {
+                return serve(headers::longer(header, &further));
+            }
+            return false;
+        }
+        return serve(header);
     }
     false
 }

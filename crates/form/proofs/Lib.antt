@@ -1,1 +1,3 @@
 pub mod Laws
+pub mod Phases
+pub mod Short

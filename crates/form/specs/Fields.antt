@@ -15,9 +15,13 @@ use Rattle.form.specs.declared.fields.Preset.{Preset}
 abbrev pub keepWord : ℕ
 keepWord = 0xFFFFFFFF
 
+-- What was there before a word, if the word leaves it, else what the word makes of it.
+abbrev pub unlessKept : {A : Type 0} → ℕ → A → A → A
+unlessKept word old new = cond (eqb word keepWord) old new
+
 -- A word put into a field whose largest number is given: it stays if the word says so, and a wider word counts as that number.
 unfoldable pub fieldOf : ℕ → ℕ → ℕ → ℕ
-fieldOf most word old = cond (eqb word keepWord) old (min word most)
+fieldOf most word old = unlessKept word old (min word most)
 
 -- The chip with the part number and the select put in.
 abbrev pub chipOf : Preset → Chip → Chip

@@ -1,9 +1,17 @@
--- The sixteen words that open a case (docs/BENCH.md).
-use Prim.Native.Nat.{ℕ}
+-- The sixteen words that open a case, and the sixteen more of a long one (docs/BENCH.md).
+use Prim.Native.Nat.{ℕ, _%_}
 use mathlib.Core.List.{List}
+use lib.Dec.{leb}
 use lib.ListN.{getD}
+use Rattle.part.specs.declared.state.State.{State}
+use Rattle.form.specs.Fields.{putInOf}
+use Rattle.form.specs.Further.{noFurther, furtherOf, furtherIn}
 use Rattle.form.specs.declared.fields.Preset.{Preset}
 use Rattle.form.specs.declared.headers.Header.{Header}
+
+-- Bit 31 of the array's length: a long case has it set.
+abbrev pub longMark : ℕ
+longMark = 0x80000000
 
 -- The last eight words: what is put into the state, in the order of the words.
 abbrev pub presetOf : List ℕ → Preset
@@ -19,7 +27,7 @@ presetOf ws =
       stored = getD ws 15 0;
     }
 
--- The first eight words: the power-up, the count of replays and four lengths; then the rest.
+-- The first eight words: the power-up, the count of replays and four lengths, one with the mark of a long case; then the rest.
 abbrev pub headerOf : List ℕ → Header
 headerOf ws =
     record {
@@ -27,9 +35,32 @@ headerOf ws =
       select = getD ws 1 0;
       stored = getD ws 2 0;
       times = getD ws 3 0;
-      array = getD ws 4 0;
+      long = leb longMark (getD ws 4 0);
+      array = getD ws 4 0 % longMark;
       elapsed = getD ws 5 0;
       levels = getD ws 6 0;
       answers = getD ws 7 0;
       preset = presetOf ws;
+      further = noFurther;
     }
+
+-- A header with sixteen words more.
+abbrev pub longerOf : Header → List ℕ → Header
+longerOf h ws =
+    record {
+      part = h .part;
+      select = h .select;
+      stored = h .stored;
+      times = h .times;
+      long = h .long;
+      array = h .array;
+      elapsed = h .elapsed;
+      levels = h .levels;
+      answers = h .answers;
+      preset = h .preset;
+      further = furtherOf ws;
+    }
+
+-- A state with all words of a header put in; a byte is loaded where the counter stands then.
+unfoldable pub stateOf : Header → State → State
+stateOf h s = furtherIn (h .further) (putInOf (h .preset) s)

@@ -1,3 +1,4 @@
 pub mod Fields
+pub mod Further
 pub mod Header
 pub mod Words

@@ -12,7 +12,8 @@ ghost use mathlib.Core.Path.{_≡_};
 ghost use Prim.Native.Nat.{min};
 ghost use Rattle.form.specs.Fields.{fieldOf, timersOf, deviceOf, wirePut, putInOf};
 
-const KEEP: u32 = 0xFFFF_FFFF;
+// The word that leaves a field as it is.
+pub const KEEP: u32 = 0xFFFF_FFFF;
 
 // The eight words that are put into a state that is powered up.
 pub struct Preset {

@@ -1,20 +1,33 @@
-// The sixteen words that open a case.
+// The sixteen words that open a case, and the sixteen more of a long one.
+use crate::fields;
+use crate::fields::KEEP;
 use crate::fields::Preset;
+use crate::further;
+use crate::further::Further;
+use part::state::State;
 ghost use mathlib.Core.Path.{_≡_};
-ghost use Rattle.form.specs.Header.{headerOf};
+ghost use Rattle.form.specs.Header.{headerOf, longerOf, stateOf};
 
-// What a case asks for: the power-up, how often its rows are replayed, how long they are, and the
-// words that are put into the powered-up state.
+// Bit 31 of the array's length: a long case has it set.
+const LONG: u32 = 0x8000_0000;
+
+// The number of the first word that a long case has beyond a short one; a header's are counted from 0.
+const FIRST: usize = 16;
+
+// What a case asks for: the power-up, how often its rows are replayed, whether it is a long one, how
+// long its rows are, and the words that are put into the powered-up state.
 pub struct Header {
     pub part: u32,
     pub select: u32,
     pub stored: u32,
     pub times: u32,
+    pub long: bool,
     pub array: u32,
     pub elapsed: u32,
     pub levels: u32,
     pub answers: u32,
     pub preset: Preset,
+    pub further: Further,
 }
 
 pub fn header_of(words: &[u32; 16]) -> Header
@@ -25,7 +38,8 @@ pub fn header_of(words: &[u32; 16]) -> Header
         select: words[1],
         stored: words[2],
         times: words[3],
-        array: words[4],
+        long: words[4] >= LONG,
+        array: words[4] % LONG,
         elapsed: words[5],
         levels: words[6],
         answers: words[7],
@@ -39,5 +53,33 @@ pub fn header_of(words: &[u32; 16]) -> Header
             select: words[14],
             stored: words[15],
         },
+        further: Further {
+            phase: KEEP,
+            flags: KEEP,
+            pending: KEEP,
+            loaded: KEEP,
+        },
     }
+}
+
+// The header of a long case, with the words that follow the first sixteen.
+pub fn longer(header: Header, words: &[u32; 16]) -> Header
+    ensures { λ r. ⌜ r ≡ longerOf header (now (words .entry)) ⌝ }
+{
+    let further = Further {
+        phase: words[23 - FIRST],
+        flags: words[24 - FIRST],
+        pending: words[25 - FIRST],
+        loaded: words[26 - FIRST],
+    };
+    let mut next = header;
+    next.further = further;
+    next
+}
+
+// A state with all words of the header put in: what a case starts from, where the state is powered up.
+pub fn state_of(header: Header, state: State) -> State
+    ensures { λ r. ⌜ r ≡ stateOf header state ⌝ }
+{
+    further::put_further(header.further, fields::put_in(header.preset, state))
 }

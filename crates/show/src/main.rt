@@ -95,7 +95,7 @@ fn show_case(header: Header, elapsed: &[u32], levels: &[u8], array: &mut [u8])
         printing::put_refusal(powered);
         return;
     };
-    let state = fields::put_in(header.preset, up.state);
+    let state = headers::state_of(header, up.state);
     let answers_length = header.answers as usize;
     if answers_length != levels.len() {
         printing::put_refusal(judged(state, elapsed, levels, array, answers_length));
@@ -158,19 +158,45 @@ fn lend(
     false
 }
 
-fn main() {
-    let mut header_bytes = [0u8; 64];
-    if fill(&mut header_bytes) {
-        let mut header_words = [0u32; 16];
-        words::decode(&header_bytes, &mut header_words);
-        let header = headers::header_of(&header_words);
-        let mut array = rooms::array_room();
-        let mut raw = rooms::raw_room();
-        let mut elapsed = rooms::elapsed_room();
-        let mut levels = rooms::row_room();
-        if lend(header, &mut array, &mut raw, &mut elapsed, &mut levels) {
-            return;
+// Shows the case of a whole header; false where its rows are cut off or too long.
+fn show(header: Header) -> bool {
+    let mut array = rooms::array_room();
+    let mut raw = rooms::raw_room();
+    let mut elapsed = rooms::elapsed_room();
+    let mut levels = rooms::row_room();
+    lend(header, &mut array, &mut raw, &mut elapsed, &mut levels)
+}
+
+// Sixteen words of a header from the input; false where there are not as many.
+fn fill_words(row: &mut [u32; 16]) -> bool {
+    let mut bytes = [0u8; 64];
+    if fill(&mut bytes) {
+        words::decode(&bytes, row);
+        return true;
+    }
+    false
+}
+
+// Shows the one case that is read; false where it is cut off or too long.
+fn show_one() -> bool {
+    let mut first = [0u32; 16];
+    if fill_words(&mut first) {
+        let header = headers::header_of(&first);
+        if header.long {
+            let mut further = [0u32; 16];
+            if fill_words(&mut further) {
+                return show(headers::longer(header, &further));
+            }
+            return false;
         }
+        return show(header);
+    }
+    false
+}
+
+fn main() {
+    if show_one() {
+        return;
     }
     printing::put(b"no whole case: it is cut off, or longer than docs/BENCH.md allows\n");
 }

@@ -14,10 +14,11 @@ use Rattle.power.specs.Power.{powerState, poweredUp}
 use Rattle.form.specs.declared.headers.Header.{Header}
 use Rattle.trials.specs.declared.tries.Tried.{Tried}
 use Rattle.form.specs.Words.{bytesOf}
-use Rattle.form.specs.Fields.{putInOf}
+use Rattle.form.specs.Header.{stateOf}
 use Rattle.trials.specs.Rounds.{Round, roundOf, timesOf}
 use Rattle.trials.specs.Trial.{blank, upOf, presetState, triedOf, Tries}
-use Rattle.replies.specs.Reply.{openingOf, Closes}
+use Rattle.replies.specs.Reply.{openingOf, Closes, Ends}
+use Rattle.replies.specs.declared.Tail.{Tail}
 use Rattle.trials.specs.Case.{Answers}
 
 -- The power-up of a header's words, as the code narrowed them.
@@ -33,13 +34,13 @@ module _ (h : Header) (part select stored : ℕ) (up : Replayed)
 
   -- An accepted power-up: the words are put in, the answer row is cleared, and the replays follow.
   pub tries-accepted : (n : ℕ) (first : State) (es ls array row clear array′ row′ : List ℕ) (last : Replayed)
-      → up .reply ≡ Accepted n → first ≡ putInOf (h .preset) (up .state) → clear ≡ replicate (length row) blank
+      → up .reply ≡ Accepted n → first ≡ stateOf h (up .state) → clear ≡ replicate (length row) blank
       → roundOf last array′ row′ ≡ timesOf (h .times) first es ls array clear
       → Tries h es ls array row (record { ran = true; last = last }) array′ row′
   unfolding meant presetState triedOf
   tries-accepted n first es ls array row clear array′ row′ last told put wiped ran =
       let v : upOf h ≡ accepted n = up-verdict (accepted n) (rw told) in
-      let at : first ≡ presetState h = put ∙ ap (λ (t : State). putInOf (h .preset) t) (up-state (accepted n) (rw told) ∙ rw (p, s, b)) in
+      let at : first ≡ presetState h = put ∙ ap (stateOf h) (up-state (accepted n) (rw told) ∙ rw (p, s, b)) in
       record { ran = rw v; last = rw v (ran ∙ rw (at, wiped)) }
 
   -- A refused power-up leaves the rows as they are.
@@ -51,12 +52,13 @@ module _ (h : Header) (part select stored : ℕ) (up : Replayed)
       let at : up .state ≡ poweredUp x4323 0 0 = up-state (refused k q) (rw told) in
       record { ran = rw v; last = rw (v, told, at) }
 
--- What a case leaves, with the bytes that open and close its reply, is the answer to it.
-pub answers-case : (h : Header) (es ls array row array′ row′ opening closing : List ℕ) (tried : Tried)
+-- What a case leaves, with the bytes that open, close and end its reply, is the answer to it.
+pub answers-case : (h : Header) (es ls array row array′ row′ opening closing : List ℕ) (tail : Tail) (tried : Tried)
     → Tries h es ls array row tried array′ row′
     → opening ≡ bytesOf (openingOf (meant (tried .last .reply))) → Closes (tried .last .state) closing
-    → Answers h es ls array row (record { ran = tried .ran; opening = opening; closing = closing }) array′ row′
-answers-case h es ls array row array′ row′ opening closing tried t o c =
+    → Ends (h .long) (tried .last .state) tail
+    → Answers h es ls array row (record { ran = tried .ran; opening = opening; closing = closing; tail = tail }) array′ row′
+answers-case h es ls array row array′ row′ opening closing tail tried t o c e =
     let state : tried .last .state ≡ triedOf h es ls array row .part .state = ap (λ (r : Round). r .part .state) (t .last) in
     record {
       ran = t .ran;
@@ -64,4 +66,5 @@ answers-case h es ls array row array′ row′ opening closing tried t o c =
       answers = ap (λ (r : Round). r .row) (t .last);
       kept = ap (λ (r : Round). r .part .array) (t .last);
       closing = subst (λ (s : State). Closes s closing) state c;
+      tail = subst (λ (s : State). Ends (h .long) s tail) state e;
     }

@@ -11,7 +11,7 @@ use Rattle.refusals.specs.Refusals.{powerOf}
 use Rattle.power.specs.Power.{poweredUp}
 use Rattle.form.specs.declared.headers.Header.{Header}
 use Rattle.trials.specs.declared.tries.Tried.{Tried}
-use Rattle.form.specs.Fields.{putInOf}
+use Rattle.form.specs.Header.{stateOf}
 use Rattle.trials.specs.Rounds.{Round, roundOf, timesOf}
 
 -- What an answer byte holds before any replay writes it.
@@ -24,7 +24,7 @@ upOf h = powerOf (min (h .part) 65535) (min (h .select) 255) (min (h .stored) 25
 
 -- The state at power-up, with the header's words put in.
 unfoldable pub presetState : Header → State
-presetState h = putInOf (h .preset) (poweredUp (min (h .part) 65535) (min (h .select) 255) (min (h .stored) 255))
+presetState h = stateOf h (poweredUp (min (h .part) 65535) (min (h .select) 255) (min (h .stored) 255))
 
 -- Whether anything is replayed: where power-up was accepted.
 abbrev pub ranBy : Verdict → Bool

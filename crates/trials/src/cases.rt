@@ -1,14 +1,16 @@
 // A case from its header and rows to all that is written for it.
 use crate::tries;
 use form::headers::Header;
+use replies::Tail;
 ghost use Rattle.trials.specs.Case.{Answers};
 
-// What a reply says beside the answer row and the array: whether those two and the closing bytes
-// follow the opening ones at all, and the bytes that open and close it.
+// What a reply says beside the answer row and the array: whether those two, the closing bytes and the
+// tail follow the opening ones at all, and the bytes that open, close and end it.
 pub struct Said {
     pub ran: bool,
     pub opening: [u8; 8],
     pub closing: [u8; 32],
+    pub tail: Tail,
 }
 
 // Powers up and replays as the header says, and puts the reply's words into bytes.
@@ -26,9 +28,11 @@ pub fn answer(
     let reply = last.reply;
     let opening = replies::opening(reply);
     let closing = replies::closing(last.state);
+    let tail = replies::ending(header.long, last.state);
     Said {
         ran: tried.ran,
         opening,
         closing,
+        tail,
     }
 }

@@ -1,6 +1,7 @@
 // One case: power-up, the words put in, and the replays.
 use crate::rounds;
 use form::fields;
+use form::headers;
 use form::headers::Header;
 use twin::Replayed;
 use twin::Reply;
@@ -44,7 +45,7 @@ pub fn run(
     let reply = up.reply;
     match reply {
         Reply::Accepted(_) => {
-            let state = fields::put_in(header.preset, up.state);
+            let state = headers::state_of(header, up.state);
             clear(answers);
             let last = rounds::replays(header.times, state, elapsed, levels, array, answers);
             Tried { ran: true, last }

@@ -1,4 +1,5 @@
 -- `show::show_case` is safe: the rows and the answer row fit their rooms.
+use native.Mathlib.Omega.{arith}
 use borrow.Author.Needs.{needs}
 use Rattle.show.proofs.show_case.Statement.{statement}
 use Rattle.show.proofs.show_case.Tie as tie
@@ -27,11 +28,11 @@ put-refusal-requires c κs = search needs
 returns : tie.Need-returns
 returns c = search needs
 
-put-in-requires : tie.Need-put-in-requires
-put-in-requires c κs = search needs
+state-of-requires : tie.Need-state-of-requires
+state-of-requires c κs = search needs
 
 cast-answers-length : tie.Need-cast-answers-length
-cast-answers-length c = search needs
+cast-answers-length c = omega (arith, c .before .before .before .before .before .before .before .before .before .before .before .pre .1)
 
 judged-requires : tie.Need-judged-requires
 judged-requires c κs = c .before .before .before .before .before .before .before .before .before .before .before .before .before .pre .1
@@ -66,7 +67,7 @@ show-case-spec =
     enum-told-2
     put-refusal-requires
     returns
-    put-in-requires
+    state-of-requires
     cast-answers-length
     judged-requires
     put-refusal-requires-2

@@ -19,8 +19,8 @@ power-up-requires c κs = search needs
 enum-told : tie.Need-enum-told
 enum-told c = search needs
 
-put-in-requires : tie.Need-put-in-requires
-put-in-requires c κs = search needs
+state-of-requires : tie.Need-state-of-requires
+state-of-requires c κs = search needs
 
 clear-requires : tie.Need-clear-requires
 clear-requires c κs = search needs
@@ -52,7 +52,7 @@ returns c =
     (up .power-up .ensures)
     _ _ _ _ _ _ _ _ _ _
     (told .enum-told .given .1)
-    (put .put-in .ensures)
+    (put .state-of .ensures)
     (cleared .clear .ensures)
     (run .replays .ensures)
 
@@ -77,7 +77,7 @@ run-spec =
     narrow8-requires-2
     power-up-requires
     enum-told
-    put-in-requires
+    state-of-requires
     clear-requires
     replays-requires
     enum-told-2
