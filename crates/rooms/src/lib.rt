@@ -81,7 +81,7 @@ pub fn raw_room() -> [u8; 262148]
 }
 
 // A sample says at most four things.
-pub fn entry_room() -> [u32; 262148]
+pub fn entry_room() -> [u64; 262148]
     ensures { λ r. ⌜ 262148 ≡ length r ⌝ }
     ensures { λ r. ⌜ r ≡ replicate 262148 0 ⌝ }
 {

@@ -2,6 +2,7 @@
 // with the bytes of the array that changed; or one line with its refusal.
 mod changes;
 mod printing;
+mod reasons;
 
 use form::fields;
 use form::headers;

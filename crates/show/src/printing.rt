@@ -1,23 +1,24 @@
 // The text that is printed: a line for what happens at a sample, a line for each byte with what
 // was answered in its ninth clock. A failing write is not told from one that succeeds.
+use crate::reasons;
 use libc::STDOUT_FILENO;
 use texts::numbers;
 use transfers::tags;
 use twin::Reply;
 
 // Where the text stands: at a line's beginning, in the line of a sample, or in that of a byte whose
-// ninth clock is to come, with its tag.
+// ninth clock is to come, with the byte's entry.
 pub enum Stands {
     AtBeginning,
-    InSample(u32),
-    InByte(u8),
+    InSample(u64),
+    InByte(u64),
 }
 
 pub fn put(text: &[u8]) {
     io::write_all(STDOUT_FILENO, text);
 }
 
-fn put_decimal(n: u64) {
+pub fn put_decimal(n: u64) {
     let mut room = [0u8; numbers::DIGITS];
     let length = numbers::put_decimal(n, &mut room, 0);
     put(&room[..length]);
@@ -26,6 +27,15 @@ fn put_decimal(n: u64) {
 fn put_hex(byte: u8) {
     let pair = numbers::byte(byte);
     put(&pair);
+}
+
+// What an entry is, and the value that it holds.
+fn tag_of(number: u64) -> u8 {
+    (number / tags::TAG % 256) as u8
+}
+
+fn value_of(number: u64) -> u8 {
+    (number % 256) as u8
 }
 
 // The line of a refusal; of an acceptance there is none.
@@ -70,12 +80,12 @@ fn put_end(stands: Stands) {
     match stands {
         Stands::AtBeginning => {}
         Stands::InSample(_) => put(b"\n"),
-        Stands::InByte(_) => put(b"broken off before its ninth clock\n"),
+        Stands::InByte(number) => reasons::put_broken_off(number),
     }
 }
 
 // Begins the line of a sample, or goes on in it.
-fn put_sample(stands: Stands, place: u32) {
+fn put_sample(stands: Stands, place: u64) {
     if let Stands::InSample(at) = stands {
         if at == place {
             put(b", ");
@@ -84,7 +94,7 @@ fn put_sample(stands: Stands, place: u32) {
     }
     put_end(stands);
     put(b"sample ");
-    put_decimal(place as u64);
+    put_decimal(place);
     put(b": ");
 }
 
@@ -104,8 +114,9 @@ fn put_cut(bits: u8) {
     }
 }
 
-fn put_event(tag: u8, value: u8) {
-    match tag {
+fn put_event(number: u64) {
+    let value = value_of(number);
+    match tag_of(number) {
         tags::START => {
             put(b"start");
             put_cut(value);
@@ -113,6 +124,7 @@ fn put_event(tag: u8, value: u8) {
         tags::STOP => {
             put(b"stop");
             put_cut(value);
+            reasons::put_cut_off(number);
         }
         tags::CYCLE_BEGINS => put(b"write cycle begins"),
         tags::CYCLE_ENDS => put(b"write cycle ends"),
@@ -123,17 +135,18 @@ fn put_event(tag: u8, value: u8) {
 }
 
 // What happens at a sample. A write cycle that ends within a byte does not break it off.
-fn event(stands: Stands, place: u32, tag: u8, value: u8) -> Stands {
-    if tag == tags::CYCLE_ENDS {
+fn event(stands: Stands, number: u64) -> Stands {
+    let place = number / tags::PLACE;
+    if tag_of(number) == tags::CYCLE_ENDS {
         if let Stands::InByte(_) = stands {
             put(b"(write cycle ends at sample ");
-            put_decimal(place as u64);
+            put_decimal(place);
             put(b") ");
             return stands;
         }
     }
     put_sample(stands, place);
-    put_event(tag, value);
+    put_event(number);
     Stands::InSample(place)
 }
 
@@ -157,21 +170,22 @@ fn put_role(tag: u8, value: u8) {
 }
 
 // A byte at its eighth fall.
-fn byte(stands: Stands, tag: u8, value: u8) -> Stands {
+fn byte(stands: Stands, number: u64) -> Stands {
+    let value = value_of(number);
     put_end(stands);
     put(b"  ");
     put_hex(value);
     put(b"  ");
-    put_role(tag, value);
-    Stands::InByte(tag)
+    put_role(tag_of(number), value);
+    Stands::InByte(number)
 }
 
-// The answer of the part, by its own level and the line's.
-fn put_answer(value: u8) {
+// The answer of the part to a byte, by its own level and the line's.
+fn put_answer(number: u64, value: u8) {
     match value {
         0 | 1 => put(b"ACK\n"),
-        2 => put(b"NO ACK, SDA held low from outside\n"),
-        _ => put(b"NO ACK\n"),
+        2 => reasons::put_no_acknowledge(b"NO ACK, SDA held low from outside", number),
+        _ => reasons::put_no_acknowledge(b"NO ACK", number),
     }
 }
 
@@ -187,9 +201,9 @@ fn put_station(value: u8) {
 // The ninth clock of a byte.
 fn ninth(stands: Stands, value: u8) -> Stands {
     match stands {
-        Stands::InByte(tag) => match tag {
+        Stands::InByte(number) => match tag_of(number) {
             tags::SENT | tags::REGISTER_SENT => put_station(value),
-            _ => put_answer(value),
+            _ => put_answer(number, value),
         },
         Stands::InSample(_) => put(b"\n  ninth clock of a byte that came before\n"),
         Stands::AtBeginning => put(b"  ninth clock of a byte that came before\n"),
@@ -198,19 +212,16 @@ fn ninth(stands: Stands, value: u8) -> Stands {
 }
 
 // One entry of the list.
-fn put_entry(stands: Stands, number: u32) -> Stands {
-    let place = number / 4096;
-    let tag = (number / 256 % 16) as u8;
-    let value = (number % 256) as u8;
-    match tag {
-        tags::SLAVE..=tags::UNHEARD => byte(stands, tag, value),
-        tags::NINTH => ninth(stands, value),
-        _ => event(stands, place, tag, value),
+fn put_entry(stands: Stands, number: u64) -> Stands {
+    match tag_of(number) {
+        tags::SLAVE..=tags::UNHEARD => byte(stands, number),
+        tags::NINTH => ninth(stands, value_of(number)),
+        _ => event(stands, number),
     }
 }
 
 // The first entries of a row, one after the other.
-pub fn put_list(entries: &[u32], count: usize) {
+pub fn put_list(entries: &[u64], count: usize) {
     let mut stands = Stands::AtBeginning;
     let mut i = 0;
     while i < entries.len() {

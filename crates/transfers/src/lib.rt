@@ -22,7 +22,7 @@ fn walk(
     elapsed: &[u32],
     levels: &[u8],
     array: &mut [u8],
-    entries: &mut [u32],
+    entries: &mut [u64],
 ) -> Listed
     requires { ⌜ length (now elapsed) ≡ length (now levels) ⌝ }
     ensures { λ r. ⌜ Walks state (now (elapsed .entry)) (now (levels .entry)) (now (array .entry)) (now (entries .entry)) r (now (array .exit)) (now (entries .exit)) ⌝ }
@@ -52,7 +52,7 @@ pub fn list(
     elapsed: &[u32],
     levels: &[u8],
     array: &mut [u8],
-    entries: &mut [u32],
+    entries: &mut [u64],
 ) -> Listed
     ensures { λ r. ⌜ Lists state (now (elapsed .entry)) (now (levels .entry)) (now (array .entry)) (now (entries .entry)) r (now (array .exit)) (now (entries .exit)) ⌝ }
 {

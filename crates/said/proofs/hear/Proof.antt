@@ -22,7 +22,8 @@ say-requires c κs = search needs
 returns-2 : tie.Need-returns-2
 unfolding signIn
 returns-2 c =
-    rw (c .before .before .before .before .before .before .before .before .if1 .left, ← c .before .before .before .line .ensures, ← c .before .before .scl .ensures) (rw (c .before .see .ensures) at (c .say .ensures))
+    let at = c .before .before .before in
+    rw (at .before .before .before .before .if1 .left, ← at .line .ensures, ← c .before .before .scl .ensures) (rw (c .before .see .ensures) at (c .say .ensures))
 
 pub hear-spec : {M : Type 1} → statement M
 hear-spec =
