@@ -9,7 +9,7 @@ use Rattle.part.specs.declared.state.State.{State}
 use Rattle.part.specs.declared.state.Timers.{Timers}
 use Rattle.wire.specs.declared.Sign.{Sign}
 use Rattle.wire.specs.declared.Sign.the-variants.{Quiet, Start, Stop, Bit, Byte, Ninth}
-use Rattle.sample.specs.Sample.{begun, latchedBy, opensOf, resetOf, startOf, stopOf, byteStep, heardBy, signIn, wiredOf, Seen, unseen, sees, seenBy, seenOf, goesOnBy, stepOf}
+use Rattle.sample.specs.Sample.{begun, latchedBy, opensOf, resetOf, startOf, stopOf, leftOf, byteStep, heardBy, signIn, wiredOf, Seen, unseen, sees, seenBy, seenOf, goesOnBy, stepOf}
 use Rattle.timers.specs.Timers.{timedOf, suppliedOf}
 use Rattle.levels.specs.Level.{wpOf, vccOf}
 use Rattle.said.specs.Said.{saidBy, heardIn}
@@ -54,7 +54,7 @@ begun-reset false t = refl
 
 -- So does every sign.
 heard-reset : (sign : Sign) (wp : Bool) (array : List ℕ) (s : State) → heardBy sign wp array s .timers .reset ≡ s .timers .reset
-unfolding startOf stopOf byteStep
+unfolding startOf stopOf leftOf byteStep
 heard-reset Quiet wp array s = refl
 heard-reset Start wp array s = refl
 heard-reset (Stop n) wp array s = rw (begun-reset, begun-reset)
