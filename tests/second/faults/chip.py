@@ -1,6 +1,6 @@
 """Faults in power-up, time, supply, answers and refusals."""
 
-CHIP, MAIN = "src/chip.rs", "src/main.rs"
+CHIP, MAIN, PUT = "src/chip.rs", "src/main.rs", "src/put.rs"
 
 # The steps of a sample up to the bus.
 STEP = """self.pass_time(elapsed);
@@ -128,7 +128,7 @@ REFUSALS = [
      "for done in 0..place { self.sample(elapsed[done], levels[done], array); answers[done] = self.answer(); }\n"
      "return refuse(9, place);"),
     ("form of the cases", "0 times means none", MAIN, "case.times.max(1)", "case.times"),
-    ("form of the cases", "a wide word loses its upper half", MAIN, "word.min(u16::MAX as u32) as u16", "word as u16"),
+    ("form of the cases", "a wide word loses its upper half", PUT, "word.min(u16::MAX as u32) as u16", "word as u16"),
     ("form of the cases", "the answer row starts as 0", "src/form.rs", "ANSWER_FILL: u8 = 0xEE", "ANSWER_FILL: u8 = 0"),
 ]
 

@@ -1,6 +1,6 @@
 """Faults in what the two sizes and the four parts differ in: request 2026-01."""
 
-CHIP, WIRE, REG, PARTS, IMAGE, MAIN = "src/chip.rs", "src/wire.rs", "src/register.rs", "src/parts.rs", "src/image.rs", "src/main.rs"
+CHIP, WIRE, REG, PARTS, IMAGE, PUT = "src/chip.rs", "src/wire.rs", "src/register.rs", "src/parts.rs", "src/image.rs", "src/put.rs"
 TIDY_CASES = "src/bin/tidy_cases.rs"
 
 # Rows of the table of parts, from the size on.
@@ -18,7 +18,7 @@ WHICH_PART = [
     ("refusal 5", "an array of either size is taken", CHIP, "if array.len() != self.kind().size {", "if array.len() != 4_096 && array.len() != 16_384 {"),
     ("refusal 5", "the larger parts may have the smaller array", CHIP, "if array.len() != self.kind().size {",
      "if array.len() != self.kind().size && array.len() != 4_096 {"),
-    ("form of the cases", "the part's state word is passed over", MAIN, "chip.part = narrow_u16(word);", "let _ = word;"),
+    ("form of the cases", "the part's state word is passed over", PUT, "chip.part = narrow_u16(word);", "let _ = word;"),
 ]
 
 PLACES = [

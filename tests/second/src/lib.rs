@@ -6,5 +6,6 @@ pub mod chip;
 pub mod form;
 pub mod image;
 pub mod parts;
+pub mod put;
 pub mod register;
 pub mod wire;

@@ -49,15 +49,25 @@ impl Chip {
     }
 
     fn stop(&mut self, wp: bool, array: &mut [u8]) {
-        // A load and a register byte are never there together; if they were,
-        // The readings have the array done first.
-        if self.load.iter().any(|byte| byte.is_some()) {
-            self.write_page(array);
-        }
-        if let Some(value) = self.register_byte {
-            self.write_register(value, wp);
+        if !self.amid_a_byte() {
+            // A load and a register byte are never there together; if they
+            // were, the readings have the array done first.
+            if self.load.iter().any(|byte| byte.is_some()) {
+                self.write_page(array);
+            }
+            if let Some(value) = self.register_byte {
+                self.write_register(value, wp);
+            }
         }
         self.end_talk();
+    }
+
+    /// Whether a stop would break a byte off that is to be written: some of
+    /// its bits are committed, or all of them with its acknowledge under way.
+    /// Nothing that came before it is written then. The bit that the stop's
+    /// own clock took isn't committed and doesn't count.
+    pub fn amid_a_byte(&self) -> bool {
+        self.bits > 0 && matches!(self.talk, Talk::ArrayData | Talk::RegisterData)
     }
 
     /// The talk is over: by a stop, or because reset is active.
@@ -168,6 +178,9 @@ impl Chip {
             self.byte = self.register();
             self.talk = Talk::SendRegister;
         } else {
+            // What goes out now is an array byte, even where a state put in was
+            // sending the register with none chosen.
+            self.talk = Talk::Send;
             self.byte = array[self.counter as usize];
             self.counter = (self.counter + 1) % self.kind().size as u16;
         }

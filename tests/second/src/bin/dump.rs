@@ -4,7 +4,10 @@
 //!
 //! REPLIES is what a program wrote for the whole of CASES.
 
-use second::form::{read_case, reply_len, words, Case, LEAVE, STATE_NAMES};
+use second::form::{
+    read_case, reply_len, words, Case, FLAGS, FLAG_NAMES, HEADER_WORDS, LEAVE, LOADED, PENDING,
+    PHASE, STATE_NAMES,
+};
 use std::io::{self, Cursor, Write};
 
 fn main() -> io::Result<()> {
@@ -64,6 +67,7 @@ fn print(out: &mut impl Write, index: usize, case: &Case, reply: &[u8]) -> io::R
             writeln!(out, "state: {name} {word} ({word:X}h)")?;
         }
     }
+    print_more(out, case)?;
     let (answers, array, state) = parts(case, reply);
     print_samples(out, case, answers)?;
     if let Some(head) = reply.get(..8).map(words) {
@@ -74,11 +78,40 @@ fn print(out: &mut impl Write, index: usize, case: &Case, reply: &[u8]) -> io::R
             writeln!(out, "array {place:04X}h: {before:02X} became {after:02X}")?;
         }
     }
-    if let [register, counter, write, reset, hold, low, runs, left] = words(state)[..] {
+    if let [register, counter, write, reset, hold, low, runs, left, more @ ..] = &words(state)[..] {
         writeln!(out, "register {register:02X}h counter {counter:04X}h write left {write}")?;
         writeln!(out, "reset {reset} hold {hold} low VCC {low} watchdog {runs} left {left}")?;
+        if let [count, ..] = more {
+            writeln!(out, "words that follow: {count}")?;
+        }
     }
     writeln!(out)
+}
+
+/// The words that only a long case has, those that count with their names.
+fn print_more(out: &mut impl Write, case: &Case) -> io::Result<()> {
+    let Some(more) = &case.more else {
+        return Ok(());
+    };
+    writeln!(out, "long form")?;
+    for (place, &word) in more.iter().enumerate().filter(|(_, &word)| word != LEAVE) {
+        let name = match place {
+            PHASE => "phase",
+            FLAGS => "flags",
+            PENDING => "pending register byte",
+            LOADED => "loaded byte",
+            _ => "counts for nothing",
+        };
+        write!(out, "word {}: {name} {word} ({word:X}h)", place + HEADER_WORDS)?;
+        if place == FLAGS {
+            // A word too wide sets them all.
+            let set = |bit: usize| word > 0xFF || word >> bit & 1 == 1;
+            let names: Vec<&str> = (0..8).filter(|&bit| set(bit)).map(|bit| FLAG_NAMES[bit]).collect();
+            write!(out, ": {}", names.join(", "))?;
+        }
+        writeln!(out)?;
+    }
+    Ok(())
 }
 
 /// The answer row, the array and the state words of a reply that has them.

@@ -13,6 +13,7 @@
 mod program;
 mod report;
 mod shrink;
+mod watch;
 
 use program::{answer_of, bytes_of, Pair};
 use report::{print_difference, Tally};

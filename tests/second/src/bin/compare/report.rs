@@ -1,6 +1,7 @@
 //! What is printed: where two replies part, and what equal ones have shown.
 
 use crate::program::Difference;
+use crate::watch::a_stop_cuts;
 use second::form::{words, Case, STATE_NAMES};
 
 const REPLY_STATE: [&str; 8] = [
@@ -16,6 +17,11 @@ const REPLY_STATE: [&str; 8] = [
 
 /// Bytes in the array of an accepted case of X4283 or X4285.
 const LARGER: usize = 16_384;
+
+/// One case in so many, if it has no more samples, is looked at for stops that
+/// cancel a write.
+const WATCHED_EVERY: u64 = 8;
+const WATCHED_SAMPLES: usize = 3_000;
 
 pub fn print_difference(difference: &Difference) {
     let Some(case) = &difference.case else {
@@ -65,6 +71,12 @@ pub fn print_difference(difference: &Difference) {
                 println!("{name}: A {a}, B {b}");
             }
         }
+        let more = |state: &[u32]| state.get(REPLY_STATE.len()).copied();
+        if let (Some(a), Some(b)) = (more(&state_a), more(&state_b)) {
+            if a != b {
+                println!("words that follow: A {a}, B {b}");
+            }
+        }
     }
 }
 
@@ -80,6 +92,8 @@ pub struct Tally {
     left_reset: u32,
     dog_running: u32,
     larger: u32,
+    long: u32,
+    cut: u32,
 }
 
 impl Tally {
@@ -93,6 +107,11 @@ impl Tally {
             return;
         }
         self.larger += (case.array.len() == LARGER) as u32;
+        self.long += case.more.is_some() as u32;
+        // Looking on takes as long as a third program would, so few are looked at.
+        if self.cases % WATCHED_EVERY == 0 && case.levels.len() <= WATCHED_SAMPLES {
+            self.cut += a_stop_cuts(case) as u32;
+        }
         self.samples += case.levels.len() as u64 * u64::from(case.times.max(1));
         let (answers, rest) = reply[8..].split_at(case.answer_len as usize);
         let (array, state) = rest.split_at(case.array.len());
@@ -109,7 +128,8 @@ impl Tally {
 
     /// The last line is for a program that adds up several runs: cases,
     /// samples stepped through, accepted, then refused by 1 to 10, then how
-    /// many of the accepted are of the larger parts.
+    /// many of the accepted are of the larger parts, how many are in the long
+    /// form, and in how many of those looked at a stop cancelled a write.
     pub fn print(&self) {
         println!("equal over {} cases", self.cases);
         println!(
@@ -121,6 +141,6 @@ impl Tally {
         for count in self.refusals {
             print!(" {count}");
         }
-        println!(" {}", self.larger);
+        println!(" {} {} {}", self.larger, self.long, self.cut);
     }
 }

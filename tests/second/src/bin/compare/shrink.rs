@@ -2,7 +2,7 @@
 //! Any difference will do, it need not be the one that was found first.
 
 use crate::program::{bytes_of, Pair};
-use second::form::{Case, LEAVE};
+use second::form::{Case, FLAGS, LEAVE, MORE_WORDS};
 use std::io;
 use std::ops::Range;
 
@@ -16,6 +16,9 @@ const MOST_ROUNDS: usize = 6;
 
 const WP: u8 = 4;
 const VCC: u8 = 8;
+
+/// Nothing pulled and both lines high, out of reset, no latch and no choice.
+const PLAIN_FLAGS: u32 = 0x61;
 
 pub fn shrink(pair: &Pair, case: &Case) -> io::Result<Case> {
     let mut work = Shrinker {
@@ -129,6 +132,7 @@ impl Shrinker<'_> {
         for field in 0..8 {
             self.try_one(|case| case.state[field] = LEAVE)?;
         }
+        self.plain_more()?;
         self.try_one(|case| case.part = 4_323)?;
         if self.case.part == 4_285 {
             self.try_one(|case| case.part = 4_283)?;
@@ -139,6 +143,33 @@ impl Shrinker<'_> {
             self.try_one(|case| case.stored &= !(1 << bit))?;
         }
         Ok(())
+    }
+
+    /// The words of a long case: none, else as many left as power-up set them
+    /// as can be, and flags as they stand then.
+    fn plain_more(&mut self) -> io::Result<()> {
+        self.try_one(|case| case.more = None)?;
+        self.try_more(|more| *more = [LEAVE; MORE_WORDS])?;
+        for field in 0..MORE_WORDS {
+            self.try_more(|more| more[field] = LEAVE)?;
+        }
+        for bit in [1, 2, 4, 8, 16, 32, 64, 128] {
+            self.try_more(|more| {
+                // Flags that are left or too wide have no bits to bend.
+                if more[FLAGS] <= 0xFF {
+                    more[FLAGS] = more[FLAGS] & !bit | PLAIN_FLAGS & bit;
+                }
+            })?;
+        }
+        Ok(())
+    }
+
+    fn try_more(&mut self, change: impl Fn(&mut [u32; MORE_WORDS])) -> io::Result<()> {
+        self.try_one(|case| {
+            if let Some(more) = &mut case.more {
+                change(more);
+            }
+        })
     }
 
     fn try_one(&mut self, change: impl Fn(&mut Case)) -> io::Result<()> {

@@ -10,7 +10,8 @@ impl Talker<'_> {
     /// One random transaction with what goes before and after it.
     pub fn transaction(&mut self) {
         match self.rng.below(100) {
-            0..=19 => self.array_write(),
+            0..=11 => self.array_write(),
+            12..=19 => self.cut_write(),
             20..=26 => self.register_sequence(),
             27..=32 => self.lone_register_byte(),
             33..=35 => self.two_register_bytes(),

@@ -5,8 +5,11 @@
 //! The last word adds one more case that must get no reply: one cut off by the
 //! end of input, or one that announces more than is taken.
 
+mod amid;
+mod cuts;
 mod damage;
 mod deeds;
+mod endings;
 mod master;
 mod register_deeds;
 mod rng;
@@ -24,7 +27,9 @@ use talk::Talker;
 
 const MAX_SAMPLES: usize = 65_536;
 /// One case in so many has rows at the limit of what a replay takes.
-const HUGE_EVERY: u64 = 120;
+const HUGE_EVERY: u64 = 100;
+/// So many of a hundred cases are long ones.
+const LONG_PERCENT: u32 = 22;
 
 fn main() -> io::Result<()> {
     let args: Vec<String> = std::env::args().skip(1).collect();
@@ -45,19 +50,8 @@ fn main() -> io::Result<()> {
         write_case(&mut output, &case)?;
     }
     match args.get(2).map(String::as_str) {
-        Some("cut") => {
-            let mut bytes = Vec::new();
-            let mut rng = Rng::new(seed);
-            write_case(&mut bytes, &usual_case(&mut rng, 0))?;
-            let length = rng.between(1, bytes.len() as u32 - 1) as usize;
-            output.write_all(&bytes[..length])?;
-        }
-        Some("over") => {
-            let mut rng = Rng::new(seed);
-            let mut case = usual_case(&mut rng, 0);
-            case.answer_len = 65_538;
-            write_case(&mut output, &case)?;
-        }
+        Some("cut") => output.write_all(&endings::cut_off(seed)?)?,
+        Some("over") => output.write_all(&endings::too_long(seed)?)?,
         _ => {}
     }
     output.flush()
@@ -67,6 +61,11 @@ fn usual_case(rng: &mut Rng, index: u64) -> Case {
     let mut case = bare_case(rng);
     if rng.percent(20) {
         spoil::good_state(rng, &mut case);
+    }
+    let long = rng.percent(LONG_PERCENT);
+    if long {
+        let size = spoil::size_in_force(&case);
+        amid::put(rng, &mut case, size);
     }
     // A state word may have made it a part of another size; then the array
     // mostly is of that size too.
@@ -81,8 +80,10 @@ fn usual_case(rng: &mut Rng, index: u64) -> Case {
         _ => rng.between(900, 3_000),
     } as usize;
     let (elapsed, levels) = match rng.below(20) {
+        2.. if long => amid_rows(rng, &case),
         0 => noise(rng, target),
         1..=4 => swept_rows(rng, &case, index as u32),
+        5..=6 => cut_rows(rng, &case),
         _ => talk_rows(rng, &case, target),
     };
     case.elapsed = elapsed;
@@ -100,6 +101,10 @@ fn usual_case(rng: &mut Rng, index: u64) -> Case {
 fn huge_case(rng: &mut Rng) -> Case {
     let mut case = bare_case(rng);
     case.times = case.times.min(2);
+    if rng.percent(10) {
+        let size = spoil::size_in_force(&case);
+        amid::put(rng, &mut case, size);
+    }
     let (elapsed, levels) = talk_rows(rng, &case, MAX_SAMPLES + 1);
     case.elapsed = elapsed;
     case.levels = levels;
@@ -130,6 +135,7 @@ fn bare_case(rng: &mut Rng) -> Case {
         times: rng.pick(&[0, 1, 1, 1, 2, 3]),
         answer_len: 0,
         state: [LEAVE; 8],
+        more: None,
         array: array(rng, kind.size),
         elapsed: Vec::new(),
         levels: Vec::new(),
@@ -237,6 +243,33 @@ fn swept_rows(rng: &mut Rng, case: &Case, step: u32) -> (Vec<u32>, Vec<u8>) {
     master.play(&opening);
     master.play(&symbols);
     master.play(&closing);
+    (master.elapsed, master.levels)
+}
+
+/// One write that is cut off, and what shows of it.
+fn cut_rows(rng: &mut Rng, case: &Case) -> (Vec<u32>, Vec<u8>) {
+    let opening = opening(rng, case);
+    let mut talker = talker(rng, case);
+    talker.cut_write();
+    if talker.rng.coin() {
+        talker.show();
+    }
+    let symbols = talker.out;
+    let mut master = new_master(rng);
+    master.play(&opening);
+    master.play(&symbols);
+    (master.elapsed, master.levels)
+}
+
+/// A capture that begins in the state put in, without any opening.
+fn amid_rows(rng: &mut Rng, case: &Case) -> (Vec<u32>, Vec<u8>) {
+    let mut talker = talker(rng, case);
+    amid::talk(&mut talker, case);
+    let symbols = talker.out;
+    let mut master = new_master(rng);
+    let (scl, sda) = amid::lines(case);
+    master.begin_amid(scl, sda);
+    master.play(&symbols);
     (master.elapsed, master.levels)
 }
 

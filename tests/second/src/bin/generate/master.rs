@@ -51,6 +51,14 @@ impl Master<'_> {
         }
     }
 
+    /// The part has power and remembers these levels of the lines, which may
+    /// be those amid a talk.
+    pub fn begin_amid(&mut self, scl: bool, sda: bool) {
+        (self.scl, self.sda) = (scl, sda);
+        self.vcc = true;
+        self.rested = false;
+    }
+
     pub fn play(&mut self, symbols: &[Sym]) {
         for &symbol in symbols {
             self.symbol(symbol);
