@@ -54,7 +54,10 @@ class Part:
         self.counter = (self.counter + 1) % self.size
         return value
 
-    def stop(self, now, wp):
+    def stop(self, now, wp, cut=False):
+        """A stop; with `cut` it comes inside a byte, and where that was to be array data or a register byte, nothing is written."""
+        if cut and self.mode == "data":
+            self.load, self.pending = {}, None
         for place, value in self.load.items():
             self.array[place] = value
             self.busy_until = now + WRITE_TIME
@@ -100,11 +103,11 @@ class Host:
         self.sent = 0
         self.lines(0, 0)
 
-    def stop(self):
+    def stop(self, cut=False):
         self.lines(0, 0)
-        self.lines(1, 0)
+        self.lines(1, 0)  # A bit is taken here, but never committed.
         self.event("Stop", [self.lines(1, 1)])
-        self.part.stop(self.now, self.wp)
+        self.part.stop(self.now, self.wp, cut)
         self.sent = None
 
     def clock(self, level):
@@ -135,22 +138,27 @@ class Host:
         self.sent += 1
         return value
 
-    def write(self, address, data, stop=True, slave=None, go_on=False):
+    def write(self, address, data, stop=True, slave=None, go_on=False, cut=0):
+        """A write transfer; with `cut` so many bits of one byte more stand before its stop, or before the next start."""
         self.start()
         slave = self.part.slave << 1 if slave is None else slave
         for value in (slave, address >> 8, address & 255):
             if not self.send(value) and not go_on:
+                cut = 0
                 break
         else:
             places = []
             for value in data:
                 places.append(self.part.counter)
                 if not self.send(value) and not go_on:
+                    cut = 0
                     break
             if stop:
                 self.operations.append(("write", address, places, bytes(data)))
+        for _ in range(cut):
+            self.clock(self.rng.randrange(2))
         if stop:
-            self.stop()
+            self.stop(cut > 0)
 
     def read(self, count, address=None, slave=None):
         if address is not None:
@@ -209,8 +217,54 @@ def sound(host, rng):
         host.read(1 if what == 4 else some(rng, 90))
 
 
-def mixed(host, rng):
-    part, what = host.part, rng.randrange(14)
+def enabled(host, enable=True, control=None):
+    """Leaves WEL as it is wanted, RWEL low, no write running, and other bits stored if they are given. With RWEL high any of these
+    begins with a third byte, as 02h would be one; and WP, which may bar it, is low meanwhile."""
+    wp, host.wp, part = host.wp, 0, host.part
+    host.ready()
+    if control is not None and not part.rwel:
+        host.write(REGISTER, [0x02])
+        host.write(REGISTER, [0x06])
+    if part.rwel:
+        host.write(REGISTER, [(part.control if control is None else control) | 0x02])
+        host.ready()
+    if part.wel != enable:
+        host.write(REGISTER, [0x02 if enable else 0x00])
+    host.wp = wp
+
+
+def place_that(host, rng, locked):
+    """An address that is locked, or one that is not, with WEL set; where there is none, another block code is stored before."""
+    part, codes = host.part, (0x18, 0x01, 0x09, 0x11, 0x19) + (0x08, 0x10) * (host.part.size > 4096)
+    enabled(host)
+    pages = [place for place in range(0, part.size, PAGE) if part.locked(place) == locked]
+    if not pages or rng.random() < 0.3:
+        enabled(host, control=part.control & 0xE0 | (rng.choice(codes) if locked else 0x00))
+        pages = [place for place in range(0, part.size, PAGE) if part.locked(place) == locked]
+    return rng.choice(pages) + rng.choice((0, PAGE - 1, rng.randrange(PAGE)))
+
+
+def barred(host, rng, most):
+    """Writes that the part does not take: cut short, with WEL low, to a locked page, of two register bytes. Those that are cut short
+    have none to some whole bytes before that, then up to `most` bits; now and then a start cuts them instead of a stop."""
+    what, cut, stop, go_on = rng.randrange(7), rng.randint(1, most), rng.random() < 0.8, rng.random() < 0.5
+    if what < 3:
+        host.write(place_that(host, rng, False), rng.randbytes(rng.choice((0, 1, 2, some(rng, 70)))), stop, cut=cut)
+    elif what == 3:
+        value = rng.choice((0x00, 0x02, 0x06, rng.randrange(256) & 0xF9 | 0x02))
+        host.write(REGISTER, rng.choice(([], [value], [value], [value, 0x02])), stop, go_on=True, cut=cut)
+    elif what == 4:
+        host.write(REGISTER, [rng.choice((0x00, 0x02, 0x06)) for _ in range(rng.randint(2, 3))], stop, go_on=go_on)
+    else:
+        place = place_that(host, rng, what == 5 or rng.random() < 0.5)
+        enabled(host, what == 5)
+        host.write(place, rng.randbytes(rng.randint(1, 3)), stop, go_on=go_on, cut=rng.choice((0, cut)))
+    if not stop:
+        host.read(some(rng, 5))
+
+
+def mixed(host, rng, most):
+    part, what = host.part, rng.randrange(22)
     near = address_near(rng, part.size)
     host.wp = rng.randrange(2)
     other = rng.choice([slave for slave in range(128) if slave != part.slave] + [part.slave ^ 1 << bit for bit in range(7)] * 9)
@@ -235,9 +289,11 @@ def mixed(host, rng):
         host.read(rng.randint(1, 3), slave=other)
     elif what == 12:
         host.write(rng.choice((REGISTER, near)), [], stop=True)
-    else:  # A start instead of the stop: what was loaded, or the register byte, is dropped.
+    elif what == 13:  # A start instead of the stop: what was loaded, or the register byte, is dropped.
         host.write(rng.choice((REGISTER, near)), rng.randbytes(rng.randint(1, 3)), stop=False)
         host.read(some(rng, 5))
+    else:
+        barred(host, rng, most)
     host.wp = rng.randrange(2)
     if rng.random() < 0.8:
         host.ready()
