@@ -1,1 +1,1 @@
-"""What more than one script of this folder imports."""
+"""What the scripts of this folder import."""

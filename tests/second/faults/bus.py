@@ -29,7 +29,7 @@ SIGNS = [
 BYTES = [
     ("slave byte", "bit 3 isn't looked at", WIRE, "byte & 0xFE != 0xA0", "byte & 0xF6 != 0xA0"),
     ("slave byte", "the upper select bit isn't looked at", WIRE, "0xA0 | self.select << 1", "0xA0 | (self.select & 1) << 1 | byte & 4"),
-    ("slave byte", "reading and writing are exchanged", WIRE, "if byte & 1 == 1 {", "if byte & 1 == 0 {"),
+    ("slave byte", "reading and writing are exchanged", WIRE, "reading = byte & 1 == 1;", "reading = byte & 1 == 0;"),
     ("address", "0FFFh chooses the register", WIRE, "address == 0xFFFF", "address & 0xFFF == 0xFFF"),
     ("address", "an array address keeps the register choice", WIRE, "address == 0xFFFF", "address == 0xFFFF || self.register_chosen"),
     ("address", "FFFFh sets the counter", WIRE, "self.talk = Talk::RegisterData;", "self.talk = Talk::RegisterData; self.counter = 4095;"),
@@ -59,10 +59,12 @@ READING = [
     ("reading", "it wraps in the page", WIRE, "(self.counter + 1) % self.kind().size as u16", "self.counter / 64 * 64 + (self.counter + 1) % 64"),
     ("reading", "the lowest bit goes first", WIRE, "self.byte << self.bits & 0x80 == 0", "self.byte >> self.bits & 1 == 0"),
     ("reading", "the line isn't let go after the eighth bit", WIRE, "self.pulls = false;\n        self.byte = 0;", "self.byte = 0;"),
-    ("reading the register", "the choice goes at the fetch", WIRE, "self.talk = Talk::SendRegister;\n",
-     "self.talk = Talk::SendRegister; self.register_chosen = false;\n"),
+    ("reading the register", "the choice goes at the fetch", WIRE, "self.byte = self.register();",
+     "self.byte = self.register(); self.register_chosen = false;"),
     ("reading the register", "the choice stays after it", WIRE, "self.register_chosen = false;\n            self.fall_silent();", "self.fall_silent();"),
     ("reading the register", "array bytes follow it", WIRE, "self.register_chosen = false;\n            self.fall_silent();", "self.register_chosen = false;"),
+    ("reading the register", "it moves the counter", WIRE, "self.byte = self.register();",
+     "self.byte = self.register(); self.counter = (self.counter + 1) % self.kind().size as u16;"),
     ("reading the register", "the latches aren't shown", WIRE, "self.byte = self.register();", "self.byte = self.stored;"),
 ]
 

@@ -100,9 +100,34 @@ STATES = [
      "if self.write_left > 0 { return self.fall_silent(); }\n        let ninth = self.bits == 8;"),
     ("states no replay makes", "own low and SDA high make no start", "src/chip.rs", "self.see_lines(scl, sda, level & WP != 0, array);",
      "if self.pulls { self.sda = false; }\n            self.see_lines(scl, sda, level & WP != 0, array);"),
-    ("states no replay makes", "an array byte that follows the register is the last", WIRE, "self.talk = Talk::Send;\n", "\n"),
-    ("states no replay makes", "a sender without a choice sends the register", WIRE, "if self.register_chosen {\n            self.byte",
-     "if self.register_chosen || self.talk == Talk::SendRegister {\n            self.byte"),
+]
+
+
+def first(arm):
+    """A ninth fall that is asked for before those of the two sending phases."""
+    ninth = "Talk::Send if ninth => self.send_next(bit, array),"
+    return ninth, arm + "\n            " + ninth
+
+
+TO_REGISTER = "{ self.talk = Talk::SendRegister; self.send_register() }"
+TO_ARRAY = "{ self.talk = Talk::Send; self.send_next(bit, array) }"
+
+SENDERS = [
+    ("ninth fall of a sender", "the choice and not the phase decides what is sent", WIRE, *first(
+        f"Talk::Send | Talk::SendRegister if ninth => if self.register_chosen {TO_REGISTER} else {TO_ARRAY},")),
+    ("ninth fall of a sender", "the register isn't sent if it isn't chosen", WIRE, *first(
+        f"Talk::SendRegister if ninth && !self.register_chosen => {TO_ARRAY}")),
+    ("ninth fall of a sender", "no array byte is sent if the register is chosen", WIRE, *first(
+        f"Talk::Send if ninth && self.register_chosen && !bit => {TO_REGISTER}")),
+    ("ninth fall of a sender", "a high bit doesn't end array bytes if the register is chosen", WIRE, *first(
+        "Talk::Send if ninth && self.register_chosen => self.send_next(false, array),")),
+    ("ninth fall of a sender", "a high bit keeps the register back", WIRE, *first(
+        "Talk::SendRegister if ninth && bit => self.fall_silent(),")),
+    ("ninth fall of a sender", "array bytes follow a register not chosen", WIRE, "if self.talk == Talk::SendRegister {",
+     "if self.talk == Talk::SendRegister && !self.register_chosen { self.talk = Talk::Send; }\n"
+     "        if self.talk == Talk::SendRegister {"),
+    ("ninth fall of a sender", "an array byte sent drops the choice", WIRE, "if self.talk == Talk::SendRegister {",
+     "self.register_chosen &= self.talk == Talk::SendRegister;\n        if self.talk == Talk::SendRegister {"),
 ]
 
 
@@ -183,4 +208,4 @@ FORM_OF = [
      "        Err(refusal) => return write_words(output, &[refusal.number, refusal.place]),"),
 ]
 
-FAULTS = WHEN + WHAT + STATES + FLAGS + PHASE + BYTES + FORM_OF
+FAULTS = WHEN + WHAT + STATES + SENDERS + FLAGS + PHASE + BYTES + FORM_OF

@@ -18,7 +18,8 @@ pub enum Talk {
     ArrayData,
     RegisterData,
     /// Sending; entered at the slave byte's eighth fall, so that its ninth
-    /// fall is also the one that fetches.
+    /// fall is also the one that fetches. Which of the two it is decides what
+    /// goes out, and the choice isn't asked again.
     Send,
     SendRegister,
 }
@@ -107,7 +108,8 @@ impl Chip {
         self.bits = if ninth { 0 } else { self.bits + 1 };
         match self.talk {
             Talk::Idle | Talk::Silent => {}
-            Talk::Send | Talk::SendRegister if ninth => self.next_to_send(bit, array),
+            Talk::Send if ninth => self.send_next(bit, array),
+            Talk::SendRegister if ninth => self.send_register(),
             Talk::Send | Talk::SendRegister => self.sent_a_bit(),
             // The ninth fall ends our acknowledge; a byte that got none has
             // silenced the part already.
@@ -130,7 +132,12 @@ impl Chip {
                 if byte & 0xFE != 0xA0 | self.select << 1 {
                     return self.fall_silent();
                 }
-                self.talk = if byte & 1 == 1 { Talk::Send } else { Talk::AddressHigh };
+                let reading = byte & 1 == 1;
+                self.talk = match (reading, self.register_chosen) {
+                    (false, _) => Talk::AddressHigh,
+                    (true, false) => Talk::Send,
+                    (true, true) => Talk::SendRegister,
+                };
             }
             Talk::AddressHigh => {
                 self.address_high = byte;
@@ -170,20 +177,19 @@ impl Chip {
     /// Ninth fall. After a slave byte our own acknowledge kept the line low, so
     /// that this bit is low as well and the first byte is fetched just as the
     /// later ones are.
-    fn next_to_send(&mut self, ninth_bit: bool, array: &[u8]) {
+    fn send_next(&mut self, ninth_bit: bool, array: &[u8]) {
         if ninth_bit {
             return self.fall_silent();
         }
-        if self.register_chosen {
-            self.byte = self.register();
-            self.talk = Talk::SendRegister;
-        } else {
-            // What goes out now is an array byte, even where a state put in was
-            // sending the register with none chosen.
-            self.talk = Talk::Send;
-            self.byte = array[self.counter as usize];
-            self.counter = (self.counter + 1) % self.kind().size as u16;
-        }
+        self.byte = array[self.counter as usize];
+        self.counter = (self.counter + 1) % self.kind().size as u16;
+        self.put_out_bit();
+    }
+
+    /// Ninth fall of the slave byte: nothing before it was sent that its bit
+    /// could ask to go on or to end, so it isn't looked at.
+    fn send_register(&mut self) {
+        self.byte = self.register();
         self.put_out_bit();
     }
 
