@@ -23,7 +23,7 @@ use Rattle.reachable.specs.Reachable.{Reachable}
 use Rattle.demand3.specs.Sending.{nothing, sends, sentOf}
 use Rattle.part.specs.declared.state.State.{State}
 use Rattle.demand3.specs.Differ.{fetchesNone, EqualBut, FullLoad, sentAfter}
-use Rattle.demand3_runs.specs.Occurs.{spot, left, right, farSpot, farLeft, farRight, readAt, readIt, unsetWrite, setWrite, cutWrite, cutAt, storedAt, cutRead, Occurs}
+use Rattle.demand3_runs.specs.Occurs.{spot, left, right, farSpot, farLeft, farRight, readAt, readIt, unsetWrite, setWrite, cutWrite, cutStopAt, wholeStopAt, cutRead, Occurs}
 use Rattle.chip_claims.specs.Demand3.{over, Compared, ReplayDemand3, PowerDemand3, ComputedForm}
 use Rattle.chip_claims.specs.States.{HandedOut, FitAgain, CutAnywhere}
 use Rattle.chip_claims.specs.AtRuns.{rowFor, Outcome, AtRuns}
@@ -71,24 +71,24 @@ unfolding opened sentOf
 third-bit = refl
 
 -- The stop of the write that is cut is seen with three bits committed, while data comes in; that of the other with none.
-cut-seen : seenOf 11 (opensOf 1 11 (afterCapture (upTo cutAt cutWrite) left .state)) ≡ sees (Stop 3)
+cut-seen : seenOf 11 (opensOf 1 11 (afterCapture (upTo cutStopAt cutWrite) left .state)) ≡ sees (Stop 3)
 unfolding opened
 cut-seen = refl
 
-cuts-three : cutsOff (afterCapture (upTo cutAt cutWrite) left .state .device .talk .phase) 3 ≡ true
+cuts-three : cutsOff (afterCapture (upTo cutStopAt cutWrite) left .state .device .talk .phase) 3 ≡ true
 unfolding opened
 cuts-three = refl
 
-whole-seen : seenOf 11 (opensOf 1 11 (afterCapture (upTo storedAt setWrite) left .state)) ≡ sees (Stop 0)
+whole-seen : seenOf 11 (opensOf 1 11 (afterCapture (upTo wholeStopAt setWrite) left .state)) ≡ sees (Stop 0)
 unfolding opened
 whole-seen = refl
 
-cuts-none : cutsOff (afterCapture (upTo storedAt setWrite) left .state .device .talk .phase) 0 ≡ false
+cuts-none : cutsOff (afterCapture (upTo wholeStopAt setWrite) left .state .device .talk .phase) 0 ≡ false
 unfolding opened
 cuts-none = refl
 
 -- What the other stores.
-stored-there : getD (savedOf (afterCapture (upTo storedAt setWrite) left .state) (afterCapture (upTo storedAt setWrite) left .array)) spot 0 ≡ 0x77
+stored-there : getD (savedOf (afterCapture (upTo wholeStopAt setWrite) left .state) (afterCapture (upTo wholeStopAt setWrite) left .array)) spot 0 ≡ 0x77
 unfolding opened
 stored-there = refl
 
@@ -120,9 +120,9 @@ runs-from o replay3 power3 form handed fit cut stops =
       stays =
           power3 .alike spot left (right .array) (unsetWrite .times) (unsetWrite .levels) (left-reachable handed o) (o .arrays) .uncovered
           (o .covering .0);
-      cancelled = stops .cancels 1 11 3 (afterCapture (upTo cutAt cutWrite) left) cut-seen cuts-three;
+      cancelled = stops .cancels 1 11 3 (afterCapture (upTo cutStopAt cutWrite) left) cut-seen cuts-three;
       stored =
-          ap (λ (r : Part). getD (r .array) spot 0) (stops .works 1 11 0 (afterCapture (upTo storedAt setWrite) left) whole-seen cuts-none)
+          ap (λ (r : Part). getD (r .array) spot 0) (stops .works 1 11 0 (afterCapture (upTo wholeStopAt setWrite) left) whole-seen cuts-none)
           ∙ stored-there;
       form = form .holds spot (left .state) (left .array) (right .array) (readIt .times) (readIt .levels) left-load (o .arrays);
     }

@@ -16,7 +16,7 @@ use Rattle.reachable.specs.Reachable.{Lowers}
 use Rattle.demand2.specs.Demand2.{Joined}
 use Rattle.demand3.specs.Sending.{bitFrom}
 use Rattle.demand3.specs.Differ.{SplitAt, Unfetched, TwoParts}
-use Rattle.demand3_runs.specs.Occurs.{spot, left, right, farSpot, farLeft, farRight, readAt, readIt, unsetWrite, setWrite, cutWrite, cutAt, storedAt, cutRead, holdsOf}
+use Rattle.demand3_runs.specs.Occurs.{spot, left, right, farSpot, farLeft, farRight, readAt, readIt, unsetWrite, setWrite, cutWrite, cutStopAt, wholeStopAt, cutRead, holdsOf}
 use Rattle.chip_claims.specs.CutStops.{Cancelled}
 use Rattle.chip_claims.specs.Demand3.{over}
 
@@ -51,5 +51,5 @@ pub record AtRuns : Type 0 where
   pub out : afterCapture cutRead left .state .device .talk .own ≡ bitFrom 2 0x4C
   pub stays : getD (afterCapture unsetWrite left .array) spot 0 ≡ 0x4C
   -- the stop inside a byte, and another
-  pub cancelled : Cancelled 1 11 (afterCapture (upTo cutAt cutWrite) left) (partStep 1 11 (afterCapture (upTo cutAt cutWrite) left))
-  pub stored : getD (partStep 1 11 (afterCapture (upTo storedAt setWrite) left) .array) spot 0 ≡ 0x77
+  pub cancelled : Cancelled 1 11 (afterCapture (upTo cutStopAt cutWrite) left) (partStep 1 11 (afterCapture (upTo cutStopAt cutWrite) left))
+  pub stored : getD (partStep 1 11 (afterCapture (upTo wholeStopAt setWrite) left) .array) spot 0 ≡ 0x77

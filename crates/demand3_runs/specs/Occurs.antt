@@ -89,12 +89,12 @@ cutWrite =
     ∷ [])
 
 -- So many samples into that capture comes the stop.
-abbrev pub cutAt : ℕ
-cutAt = 239
+abbrev pub cutStopAt : ℕ
+cutStopAt = 239
 
 -- So many into the one that is not cut.
-abbrev pub storedAt : ℕ
-storedAt = 230
+abbrev pub wholeStopAt : ℕ
+wholeStopAt = 230
 
 -- So many samples into the read the byte has been fetched and its second bit is out.
 abbrev pub partWay : ℕ

@@ -8,7 +8,7 @@ use lib.ListN.{getD}
 use borrow.Author.Tests.{leb-false}
 use Rattle.part.specs.declared.state.State.{State}
 use Rattle.form.specs.Fields.{putInOf}
-use Rattle.form.specs.Further.{furtherIn, byteIn}
+use Rattle.form.specs.Further.{furtherIn, putByWord}
 use Rattle.form.specs.Header.{longMark, presetOf, headerOf, stateOf}
 
 -- Its array is as long as the word says.
@@ -19,5 +19,5 @@ short-length ws short =
 
 -- Its state is made of the first sixteen words alone.
 pub short-state : (ws : List ℕ) (s : State) → stateOf (headerOf ws) s ≡ putInOf (presetOf ws) s
-unfolding stateOf furtherIn byteIn
+unfolding stateOf furtherIn putByWord
 short-state ws s = refl

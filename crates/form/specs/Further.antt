@@ -45,23 +45,23 @@ abbrev pub phaseIn : ℕ → State → State
 phaseIn n s = withDevice s (withTalk (s .device) (withPhase (s .device .talk) (phaseOf n)))
 
 -- Whether a bit of a number is set, counted from its lowest, bit 0.
-abbrev pub bitOf : ℕ → ℕ → Bool
-bitOf k v = odd (v / 2 ^ k)
+abbrev pub flagAt : ℕ → ℕ → Bool
+flagAt k v = odd (v / 2 ^ k)
 
 -- The timers with their two flags.
 abbrev pub timersFlagged : ℕ → Timers → Timers
-timersFlagged v t = withLow (withReset t (bitOf 1 v)) (bitOf 2 v)
+timersFlagged v t = withLow (withReset t (flagAt 1 v)) (flagAt 2 v)
 
 -- The wire with the remembered levels of its lines.
 abbrev pub wireFlagged : ℕ → Wire → Wire
-wireFlagged v w = record { lines = record { scl = bitOf 5 v; sda = bitOf 6 v }; frame = w .frame }
+wireFlagged v w = record { lines = record { scl = flagAt 5 v; sda = flagAt 6 v }; frame = w .frame }
 
 -- The device with its own level, its two latches and the choice of the register.
 abbrev pub deviceFlagged : ℕ → Device → Device
 deviceFlagged v d =
     withControl
-    (withTalk d (withOwn (d .talk) (bitOf 0 v)))
-    (withChosen (withRwel (withWel (d .control) (bitOf 3 v)) (bitOf 4 v)) (bitOf 7 v))
+    (withTalk d (withOwn (d .talk) (flagAt 0 v)))
+    (withChosen (withRwel (withWel (d .control) (flagAt 3 v)) (flagAt 4 v)) (flagAt 7 v))
 
 -- The state with flags, from bit 0: own level, reset active, low-VCC flag, WEL, RWEL, SCL, SDA, register chosen.
 abbrev pub flagsIn : ℕ → State → State
@@ -79,11 +79,11 @@ abbrev pub loadedIn : ℕ → State → State
 loadedIn v s = withLoad s (filledOf (s .load) (s .device .counter) v)
 
 -- A byte that a word puts into the state: the state stays if the word says so, and a wider word counts as 255.
-unfoldable pub byteIn : (ℕ → State → State) → ℕ → State → State
-byteIn put word s = unlessKept word s (put (min word 255) s)
+unfoldable pub putByWord : (ℕ → State → State) → ℕ → State → State
+putByWord put word s = unlessKept word s (put (min word 255) s)
 
 -- The state with the further words put in.
 unfoldable pub furtherIn : Further → State → State
 furtherIn f s =
-    byteIn loadedIn (f .loaded)
-    (byteIn pendingIn (f .pending) (byteIn flagsIn (f .flags) (byteIn phaseIn (f .phase) s)))
+    putByWord loadedIn (f .loaded)
+    (putByWord pendingIn (f .pending) (putByWord flagsIn (f .flags) (putByWord phaseIn (f .phase) s)))

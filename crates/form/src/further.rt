@@ -5,7 +5,7 @@ use part::state::Phase;
 use part::state::State;
 use part::state::Talk;
 ghost use mathlib.Core.Path.{_≡_};
-ghost use Rattle.form.specs.Further.{phaseOf, phaseIn, flagsIn, pendingIn, loadedIn, byteIn, furtherIn};
+ghost use Rattle.form.specs.Further.{phaseOf, phaseIn, flagsIn, pendingIn, loadedIn, putByWord, furtherIn};
 
 // The words that count, in their order. 16 and 17 are kept for editions, 18 to 22 for counts, and the
 // five after these say nothing.
@@ -34,7 +34,7 @@ fn phase_of(number: u8) -> Phase
 }
 
 fn put_phase(word: u32, s: State) -> State
-    ensures { λ r. ⌜ r ≡ byteIn phaseIn word s ⌝ }
+    ensures { λ r. ⌜ r ≡ putByWord phaseIn word s ⌝ }
 {
     if word == KEEP {
         return s;
@@ -56,7 +56,7 @@ fn put_phase(word: u32, s: State) -> State
 
 // From bit 0: own level, reset active, low-VCC flag, WEL, RWEL, SCL, SDA, register chosen.
 fn put_flags(word: u32, s: State) -> State
-    ensures { λ r. ⌜ r ≡ byteIn flagsIn word s ⌝ }
+    ensures { λ r. ⌜ r ≡ putByWord flagsIn word s ⌝ }
 {
     if word == KEEP {
         return s;
@@ -83,7 +83,7 @@ fn put_flags(word: u32, s: State) -> State
 }
 
 fn put_pending(word: u32, s: State) -> State
-    ensures { λ r. ⌜ r ≡ byteIn pendingIn word s ⌝ }
+    ensures { λ r. ⌜ r ≡ putByWord pendingIn word s ⌝ }
 {
     if word == KEEP {
         return s;
@@ -96,7 +96,7 @@ fn put_pending(word: u32, s: State) -> State
 }
 
 fn put_loaded(word: u32, s: State) -> State
-    ensures { λ r. ⌜ r ≡ byteIn loadedIn word s ⌝ }
+    ensures { λ r. ⌜ r ≡ putByWord loadedIn word s ⌝ }
 {
     if word == KEEP {
         return s;

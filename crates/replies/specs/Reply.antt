@@ -36,15 +36,15 @@ pub record Closes (s : State) (bytes : List ℕ) : Type 0 where
   pub said : bytes ≡ bytesOf (closingOf register s)
 
 -- What a long case is told of a state beyond those eight words: nothing so far.
-abbrev pub toldOf : State → List ℕ
-toldOf s = []
+abbrev pub furtherTold : State → List ℕ
+furtherTold s = []
 
 -- The words that end a reply: a long case has how many more it is told, and these; a short one has none.
 unfoldable pub endingOf : Bool → State → List ℕ
-endingOf true s = length (toldOf s) ∷ toldOf s
+endingOf true s = length (furtherTold s) ∷ furtherTold s
 endingOf false s = []
 
 -- The bytes that end a reply: as many from the front of their room as the tail has.
-pub record Ends (long : Bool) (s : State) (t : Tail) : Type 0 where
+pub record EndsReply (long : Bool) (s : State) (t : Tail) : Type 0 where
   pub fits : t .length ≤ length (t .bytes)
   pub said : take (t .length) (t .bytes) ≡ bytesOf (endingOf long s)

@@ -7,7 +7,7 @@ ghost use Prim.Native.Nat.{min};
 ghost use Rattle.ground.specs.Cases.{orZero};
 ghost use Rattle.ground.specs.Verdict.{meant};
 ghost use Rattle.form.specs.Words.{bytesOf};
-ghost use Rattle.replies.specs.Reply.{openingOf, closingOf, Closes, Ends};
+ghost use Rattle.replies.specs.Reply.{openingOf, closingOf, Closes, EndsReply};
 
 // A place fits a word in every reply that can come; were it wider, it would count as the largest word.
 fn capped(place: usize) -> u32
@@ -86,7 +86,7 @@ pub struct Tail {
 // What a long case is told beyond the closing words: how many words more there are, and these. So far
 // there are none, whatever the state.
 pub fn ending(long: bool, state: State) -> Tail
-    ensures { λ r. ⌜ Ends long state r ⌝ }
+    ensures { λ r. ⌜ EndsReply long state r ⌝ }
 {
     let words = [0u32];
     let mut bytes = [0u8; 4];

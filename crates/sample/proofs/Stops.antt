@@ -10,7 +10,7 @@ use Rattle.part.specs.State.{withDevice, withLoad}
 use Rattle.control.specs.Register.{orderBy, orderOf, carriedOut}
 use Rattle.control.specs.declared.Order.the-variants.{Nothing}
 use Rattle.ends.specs.Ends.{cutsOff, controlLeft, stoppedOf, endedOf}
-use Rattle.sample.specs.Sample.{stopOf, loadLeft, leftBy, leftOf, savedOf}
+use Rattle.sample.specs.Sample.{stopOf, loadLeft, leftOverBy, leftOf, savedOf}
 
 -- With nothing pending a stop has no order.
 pub no-order : (wp : Bool) (c : Control) → c .pending ≡ false → orderOf wp c ≡ Nothing
@@ -18,7 +18,7 @@ unfolding orderOf
 no-order wp c h = ap (λ (b : Bool). orderBy b (c .rwel) wp c) h
 
 -- A stop that finds an empty load and nothing pending does the same whatever it cuts.
-calm-by : (cut wp : Bool) (s : State) → s .device .control .pending ≡ false → s .load ≡ emptyLoad → stopOf wp (leftBy cut s) ≡ stopOf wp s
+calm-by : (cut wp : Bool) (s : State) → s .device .control .pending ≡ false → s .load ≡ emptyLoad → stopOf wp (leftOverBy cut s) ≡ stopOf wp s
 unfolding stopOf stoppedOf carriedOut
 calm-by false wp s h e = refl
 calm-by true wp s h e = rw (no-order wp (controlLeft true (s .device .control)) refl, no-order wp (s .device .control) h, e)
@@ -41,7 +41,7 @@ calm-saved n s array e = rw (e, empty-left (cutsOff (s .device .talk .phase) n))
 
 -- A stop that cuts a byte off ends talk as reset does, and leaves all else.
 cut-by : (cut wp : Bool) (s : State) → cut ≡ true
-    → stopOf wp (leftBy cut s) ≡ withLoad (withDevice s (endedOf (s .device))) emptyLoad
+    → stopOf wp (leftOverBy cut s) ≡ withLoad (withDevice s (endedOf (s .device))) emptyLoad
 unfolding stopOf stoppedOf carriedOut endedOf
 cut-by true wp s h = rw (no-order wp (controlLeft true (s .device .control)) refl)
 cut-by false wp s h = absurd (true≢false (sym h))

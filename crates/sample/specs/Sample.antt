@@ -74,12 +74,12 @@ loadLeft true l = emptyLoad
 loadLeft false l = l
 
 -- What is left of the state by whether a stop cut a byte off: load and pending byte are cancelled together (request 2026-02).
-abbrev pub leftBy : Bool → State → State
-leftBy cut s = withLoad (withDevice s (withControl (s .device) (controlLeft cut (s .device .control)))) (loadLeft cut (s .load))
+abbrev pub leftOverBy : Bool → State → State
+leftOverBy cut s = withLoad (withDevice s (withControl (s .device) (controlLeft cut (s .device .control)))) (loadLeft cut (s .load))
 
 -- The state that a stop with n committed bits acts on (Bytes on the wire, stop; Control register; request 2026-02).
 unfoldable pub leftOf : ℕ → State → State
-leftOf n s = leftBy (cutsOff (s .device .talk .phase) n) s
+leftOf n s = leftOverBy (cutsOff (s .device .talk .phase) n) s
 
 -- A byte changes the device and the load (Bytes on the wire).
 unfoldable pub byteStep : ℕ → State → State

@@ -18,8 +18,8 @@ abbrev pub pageCut : ℕ → List Capture
 pageCut n = latchSet ++ brisk (addressed 0 0x040 ++ sent 0x11 ++ sent 0x22 ++ clocks n 0x7F ++ stop) ∷ []
 
 -- The state of a blank part after captures.
-abbrev pub stateAt : ℕ → ℕ → List Capture → State
-stateAt part size cs = partAt (blankOf part size 0) cs .state
+abbrev pub stateAfter : ℕ → ℕ → List Capture → State
+stateAfter part size cs = partAt (blankOf part size 0) cs .state
 
 -- So many bits of the third byte cancel both that came before: the array and the register are as 02h left them, no write runs, and only the
 -- counter has moved; `calm` is the answer byte with no write running (request 2026-02).
@@ -27,9 +27,9 @@ pub record PageCut (part size calm n : ℕ) : Type 0 where
   pub taken : AcceptedAt (blankOf part size 0) (pageCut n)
   pub array : partAt (blankOf part size 0) (pageCut n) .array ≡ replicate size 0xFF
   pub answer : lastAnswers 1 (answersAt (blankOf part size 0) (pageCut n)) ≡ calm ∷ []
-  pub time : stateAt part size (pageCut n) .timers .write ≡ 0
-  pub register : stateAt part size (pageCut n) .device .control ≡ holds 0 true false
-  pub counter : stateAt part size (pageCut n) .device .counter .0 ≡ 0x042
+  pub time : stateAfter part size (pageCut n) .timers .write ≡ 0
+  pub register : stateAfter part size (pageCut n) .device .control ≡ holds 0 true false
+  pub counter : stateAfter part size (pageCut n) .device .counter .0 ≡ 0x042
 
 -- Then 33h to 040h (request 2026-02: a cancelled stop is else an ordinary stop).
 abbrev pub cutThenWrite : List Capture
@@ -44,7 +44,7 @@ pub record S29 (part size calm writing : ℕ) : Type 0 where
   pub taken : AcceptedAt (blankOf part size 0) (pageCut 0) × AcceptedAt (blankOf part size 0) cutThenWrite
   pub both : partAt (blankOf part size 0) (pageCut 0) .array ≡ replicate 64 0xFF ++ 0x11 ∷ 0x22 ∷ replicate (size - 66) 0xFF
   pub answer : lastAnswers 1 (answersAt (blankOf part size 0) (pageCut 0)) ≡ writing ∷ []
-  pub time : stateAt part size (pageCut 0) .timers .write ≡ 5000
+  pub time : stateAfter part size (pageCut 0) .timers .write ≡ 5000
   pub later : partAt (blankOf part size 0) cutThenWrite .array ≡ replicate 64 0xFF ++ 0x33 ∷ replicate (size - 65) 0xFF
 
 -- 02h to the register, so many bits of another byte, and the stop (Control register, at a stop after one byte).
@@ -64,9 +64,9 @@ thirdCut n = bothSet ++ brisk (addressed 0 0xFFFF ++ sent 0x63 ++ clocks n 0x7F 
 pub record S30 (part size : ℕ) : Type 0 where
   pub taken : AcceptedAt (blankOf part size 0) (latchCut 1) × AcceptedAt (blankOf part size 0) (latchCut 0)
   pub accepted : AcceptedAt (blankOf part size 0) (thirdCut 1) × AcceptedAt (blankOf part size 0) (thirdCut 0)
-  pub first : stateAt part size (latchCut 1) .device .control ≡ holds 0 false false
-  pub alone : stateAt part size (latchCut 0) .device .control ≡ holds 0 true false
-  pub third : stateAt part size (thirdCut 1) .device .control ≡ holds 0 true true
-  pub noTime : stateAt part size (thirdCut 1) .timers .write ≡ 0
-  pub takes : stateAt part size (thirdCut 0) .device .control ≡ holds 0x61 true false
-  pub time : stateAt part size (thirdCut 0) .timers .write ≡ 5000
+  pub first : stateAfter part size (latchCut 1) .device .control ≡ holds 0 false false
+  pub alone : stateAfter part size (latchCut 0) .device .control ≡ holds 0 true false
+  pub third : stateAfter part size (thirdCut 1) .device .control ≡ holds 0 true true
+  pub noTime : stateAfter part size (thirdCut 1) .timers .write ≡ 0
+  pub takes : stateAfter part size (thirdCut 0) .device .control ≡ holds 0x61 true false
+  pub time : stateAfter part size (thirdCut 0) .timers .write ≡ 5000

@@ -17,7 +17,7 @@ use Rattle.form.specs.Words.{bytesOf}
 use Rattle.form.specs.Header.{stateOf}
 use Rattle.trials.specs.Rounds.{Round, roundOf, timesOf}
 use Rattle.trials.specs.Trial.{blank, upOf, presetState, triedOf, Tries}
-use Rattle.replies.specs.Reply.{openingOf, Closes, Ends}
+use Rattle.replies.specs.Reply.{openingOf, Closes, EndsReply}
 use Rattle.replies.specs.declared.Tail.{Tail}
 use Rattle.trials.specs.Case.{Answers}
 
@@ -56,7 +56,7 @@ module _ (h : Header) (part select stored : ℕ) (up : Replayed)
 pub answers-case : (h : Header) (es ls array row array′ row′ opening closing : List ℕ) (tail : Tail) (tried : Tried)
     → Tries h es ls array row tried array′ row′
     → opening ≡ bytesOf (openingOf (meant (tried .last .reply))) → Closes (tried .last .state) closing
-    → Ends (h .long) (tried .last .state) tail
+    → EndsReply (h .long) (tried .last .state) tail
     → Answers h es ls array row (record { ran = tried .ran; opening = opening; closing = closing; tail = tail }) array′ row′
 answers-case h es ls array row array′ row′ opening closing tail tried t o c e =
     let state : tried .last .state ≡ triedOf h es ls array row .part .state = ap (λ (r : Round). r .part .state) (t .last) in
@@ -66,5 +66,5 @@ answers-case h es ls array row array′ row′ opening closing tail tried t o c 
       answers = ap (λ (r : Round). r .row) (t .last);
       kept = ap (λ (r : Round). r .part .array) (t .last);
       closing = subst (λ (s : State). Closes s closing) state c;
-      tail = subst (λ (s : State). Ends (h .long) s tail) state e;
+      tail = subst (λ (s : State). EndsReply (h .long) s tail) state e;
     }

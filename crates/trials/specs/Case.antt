@@ -6,7 +6,7 @@ use Rattle.form.specs.declared.headers.Header.{Header}
 use Rattle.trials.specs.declared.cases.Said.{Said}
 use Rattle.form.specs.Words.{bytesOf}
 use Rattle.trials.specs.Trial.{upOf, ranBy, triedOf}
-use Rattle.replies.specs.Reply.{openingOf, Closes, Ends}
+use Rattle.replies.specs.Reply.{openingOf, Closes, EndsReply}
 
 -- A reply: opening bytes of the last verdict; after an accepted power-up row, array, closing bytes and tail of the last replay.
 pub record Answers (h : Header) (es ls array row : List ℕ) (r : Said) (array′ row′ : List ℕ) : Type 0 where
@@ -15,4 +15,4 @@ pub record Answers (h : Header) (es ls array row : List ℕ) (r : Said) (array�
   pub answers : row′ ≡ triedOf h es ls array row .row
   pub kept : array′ ≡ triedOf h es ls array row .part .array
   pub closing : Closes (triedOf h es ls array row .part .state) (r .closing)
-  pub tail : Ends (h .long) (triedOf h es ls array row .part .state) (r .tail)
+  pub tail : EndsReply (h .long) (triedOf h es ls array row .part .state) (r .tail)

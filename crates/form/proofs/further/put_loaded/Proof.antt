@@ -1,12 +1,12 @@
 -- `form::further::put_loaded` meets its contract.
 use borrow.Author.Needs.{needs}
 use borrow.Author.Tests.{eq-eqb, ne-eqb}
-use Rattle.form.specs.Further.{byteIn}
+use Rattle.form.specs.Further.{putByWord}
 use Rattle.form.proofs.further.put_loaded.Statement.{statement}
 use Rattle.form.proofs.further.put_loaded.Tie as tie
 
 returns : tie.Need-returns
-unfolding byteIn
+unfolding putByWord
 returns c = rw (eq-eqb _ _ (c .if1 .taken))
 
 narrow8-requires : tie.Need-narrow8-requires
@@ -16,7 +16,7 @@ filled-requires : tie.Need-filled-requires
 filled-requires c κs = search needs
 
 returns-2 : tie.Need-returns-2
-unfolding byteIn
+unfolding putByWord
 returns-2 c = rw (c .filled .ensures, c .before .narrow8 .ensures, ne-eqb _ _ (c .before .before .before .if1 .left))
 
 pub put-loaded-spec : {M : Type 1} → statement M
