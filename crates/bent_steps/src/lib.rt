@@ -1,1 +1,1 @@
-// No function: three steps that bend a rule each break demand 3. specs/ says it, proofs/ shows it.
+// No function: four steps that bend a rule each break demand 3. specs/ says it, proofs/ shows it.

@@ -13,6 +13,7 @@ use Rattle.power.specs.Power.{poweredUp}
 use Rattle.power.specs.declared.Replayed.{Replayed}
 use Rattle.waves.specs.Waves.{Capture, upTo}
 use Rattle.wire.specs.declared.Sign.the-variants.{Stop}
+use Rattle.page.specs.Page.{marked}
 use Rattle.ends.specs.Ends.{cutsOff}
 use Rattle.sample.specs.Sample.{opensOf, savedOf, sees, seenOf}
 use Rattle.sample.specs.Run.{Part}
@@ -75,6 +76,10 @@ cut-seen : seenOf 11 (opensOf 1 11 (afterCapture (upTo cutStopAt cutWrite) left 
 unfolding opened
 cut-seen = refl
 
+cut-loaded : marked (afterCapture (upTo cutStopAt cutWrite) left .state .load) ≡ true
+unfolding opened
+cut-loaded = refl
+
 cuts-three : cutsOff (afterCapture (upTo cutStopAt cutWrite) left .state .device .talk .phase) 3 ≡ true
 unfolding opened
 cuts-three = refl
@@ -120,6 +125,8 @@ runs-from o replay3 power3 form handed fit cut stops =
       stays =
           power3 .alike spot left (right .array) (unsetWrite .times) (unsetWrite .levels) (left-reachable handed o) (o .arrays) .uncovered
           (o .covering .0);
+      cut = (cut-seen, cut-loaded);
+      whole = whole-seen;
       cancelled = stops .cancels 1 11 3 (afterCapture (upTo cutStopAt cutWrite) left) cut-seen cuts-three;
       stored =
           ap (λ (r : Part). getD (r .array) spot 0) (stops .works 1 11 0 (afterCapture (upTo wholeStopAt setWrite) left) whole-seen cuts-none)

@@ -2,6 +2,8 @@
 use Prim.Native.Nat.{ℕ}
 use mathlib.Core.Bool.{Bool, true, false, true≢false}
 use mathlib.Core.Path.{_≡_, refl, ap, sym, _∙_}
+use native.Mathlib.Omega.{arith}
+use borrow.Author.Tests.{lt-ltb}
 use Rattle.page.specs.Page.{emptyLoad}
 use Rattle.part.specs.State.{withDevice, withLoad}
 use Rattle.part.specs.declared.state.Control.{Control}
@@ -15,7 +17,7 @@ use Rattle.levels.specs.Level.{wpOf, vccOf}
 use Rattle.sample.specs.Sample.{latchedBy, opensOf, wiredOf, stopOf, leftOf, savedOf, signIn, Seen, unseen, sees, seenBy, seenOf, stepOf, arrayOf}
 use Rattle.sample.specs.Run.{Part, partStep}
 use Rattle.sample.proofs.Stops.{cut-stop, cut-saved, whole-left}
-use Rattle.chip_claims.specs.CutStops.{Cancelled, CutStops}
+use Rattle.chip_claims.specs.CutStops.{Cancelled, WhichCut, CutStops}
 
 -- Where a sign is seen VCC is good, and the latches stand.
 latched-seen : (v : Bool) (t : Timers) (sign seen : Sign) (c : Control) → seenBy (suppliedOf v t .reset) sign ≡ sees seen
@@ -41,6 +43,8 @@ module _ (e level n : ℕ) (p : Part) (seen : seenOf level (opensOf e level (p .
   cut-cancels c =
       let k = cut-step c in
       record {
+        chip = ap (λ (r : Part). r .state .chip) k;
+        wire = ap (λ (r : Part). r .state .wire) k;
         array = ap (λ (r : Part). r .array) k;
         timers = ap (λ (r : Part). r .state .timers) k;
         counter = ap (λ (r : Part). r .state .device .counter) k;
@@ -58,6 +62,18 @@ module _ (e level n : ℕ) (p : Part) (seen : seenOf level (opensOf e level (p .
   unfolding partStep stepOf arrayOf opensOf wiredOf
   whole-works c = rw (seen, whole-left n wired c)
 
+-- Which stops cut.
+which-cut : WhichCut
+which-cut =
+    record {
+      array = λ n h k. lt-ltb 0 n (omega arith);
+      register = λ n h k. lt-ltb 0 n (omega arith);
+      none = (refl, refl);
+      waiting = λ n. (refl, refl);
+      addressed = λ n. (refl, refl, refl);
+      sending = λ n. (refl, refl);
+    }
+
 -- The claim.
 pub cut-stops : CutStops
-cut-stops = record { cancels = cut-cancels; works = whole-works }
+cut-stops = record { which = which-cut; cancels = cut-cancels; works = whole-works }

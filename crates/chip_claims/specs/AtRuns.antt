@@ -7,6 +7,9 @@ use mathlib.Core.List.{List}
 use mathlib.Core.Path.{_≡_}
 use lib.ListN.{length, getD, take, drop, replicate}
 use Rattle.power.specs.declared.Replayed.{Replayed}
+use Rattle.page.specs.Page.{marked}
+use Rattle.wire.specs.declared.Sign.the-variants.{Stop}
+use Rattle.sample.specs.Sample.{opensOf, sees, seenOf}
 use Rattle.sample.specs.Run.{Part, partStep}
 use Rattle.twin.specs.Promises.{Replays}
 use Rattle.waves.specs.Waves.{Capture, upTo}
@@ -50,6 +53,9 @@ pub record AtRuns : Type 0 where
   pub until : Unfetched spot (take 100 (readIt .times)) (take 100 (readIt .levels)) left right
   pub out : afterCapture cutRead left .state .device .talk .own ≡ bitFrom 2 0x4C
   pub stays : getD (afterCapture unsetWrite left .array) spot 0 ≡ 0x4C
-  -- the stop inside a byte, and another
+  -- the stop inside a byte, with a byte loaded and three bits of the next committed, and another with none
+  pub cut : (seenOf 11 (opensOf 1 11 (afterCapture (upTo cutStopAt cutWrite) left .state)) ≡ sees (Stop 3))
+      × (marked (afterCapture (upTo cutStopAt cutWrite) left .state .load) ≡ true)
+  pub whole : seenOf 11 (opensOf 1 11 (afterCapture (upTo wholeStopAt setWrite) left .state)) ≡ sees (Stop 0)
   pub cancelled : Cancelled 1 11 (afterCapture (upTo cutStopAt cutWrite) left) (partStep 1 11 (afterCapture (upTo cutStopAt cutWrite) left))
   pub stored : getD (partStep 1 11 (afterCapture (upTo wholeStopAt setWrite) left) .array) spot 0 ≡ 0x77

@@ -147,7 +147,7 @@ pub record Occurs : Type 0 where
   pub size : length (left .array) ≡ kindOf x4323 .size
   pub read : RunsTo left right readIt (sample 126) never
   pub other : RunsTo left right readOther never never
-  pub write : RunsTo left right setWrite never (sample 230)
+  pub write : RunsTo left right setWrite never (sample wholeStopAt)
   pub unset : RunsTo left right unsetWrite (sample 241) never
   pub locked : RunsTo lockedLeft lockedRight setWrite (sample 355) never
   -- a write that is cut covers nothing, and the read after it differs

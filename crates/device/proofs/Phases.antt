@@ -1,16 +1,30 @@
 -- What a byte does in each phase. Assumes nothing.
 use Prim.Native.Nat.{ℕ}
-use mathlib.Core.Bool.{Bool, true, _&&_, true≢false}
+use mathlib.Core.Bool.{Bool, true, false, _&&_, true≢false}
 use mathlib.Core.Path.{_≡_, refl, ap, sym}
+use lib.Dec.{eqb}
+use Rattle.ground.specs.Numbers.{registerAddress}
 use Rattle.ground.specs.declared.kinds.Kind.{Kind}
+use Rattle.part.specs.declared.state.BusAddress.{BusAddress}
 use Rattle.part.specs.declared.state.Phase.{Phase}
 use Rattle.part.specs.declared.state.Phase.the-variants.{Idle, Silent, Slave, High, Low, Data, Register, Send, SendRegister}
 use Rattle.part.specs.declared.state.Device.{Device}
 use Rattle.part.specs.declared.state.Load.{Load}
 use Rattle.part.specs.State.{withTalk}
-use Rattle.address.specs.Talk.{rested}
-use Rattle.address.specs.Address.{slaveOf, highOf, lowOf}
+use Rattle.address.specs.Talk.{rested, addressOf}
+use Rattle.address.specs.Address.{slaveOf, highOf, addressBy, lowOf}
 use Rattle.device.specs.Bytes.{takenOf, dataBy, registerBy, registerSent, byteIn, byteOf, keptBy, expectsData, keptOf}
+
+-- A whole address is acknowledged, whichever it is.
+address-acknowledged : (b : Bool) (k : Kind) (d : Device) (a : BusAddress) → addressBy b k d a .talk .own ≡ false
+address-acknowledged true k d a = refl
+address-acknowledged false k d a = refl
+
+-- So is its low byte.
+pub low-acknowledged : (k : Kind) (d : Device) (v : ℕ) → lowOf k d v .talk .own ≡ false
+unfolding lowOf
+low-acknowledged k d v =
+    address-acknowledged (eqb (addressOf (d .talk .high) v .0) registerAddress) k d (addressOf (d .talk .high) v)
 
 -- The load by phase, outside array data.
 kept-none : (p : Phase) (k : Kind) (d : Device) (v : ℕ) (l : Load) → (p ≡ Data → ⊥) → keptBy (expectsData p && takenOf k d) d v l ≡ l

@@ -1,5 +1,6 @@
 -- What can be said of a sample, entry by entry, and entries as numbers in a row (document 01, State and time; Bytes on the wire; request
--- 2026-02). Of an accepted capture and a part on our bench a number loses nothing (proofs/Parts; withheld/proofs/Pages, narrow-told).
+-- 2026-02). Parts that keep to their bits are read back from a number as they were (proofs/Parts), and those of an accepted capture and of a
+-- part on our bench do (withheld/proofs/Pages, narrow-told); of a byte that is not heard it does not tell idle from silent.
 use Prim.Native.Nat.{ℕ, _+_, _*_, _%_, _≤_}
 use mathlib.Core.Bool.{Bool, true, false}
 use mathlib.Core.List.{List, [], _∷_, map}

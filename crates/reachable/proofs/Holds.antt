@@ -1,5 +1,6 @@
--- What holds of every sample that a reachable part is given: no start and no stop while it holds SDA low, marks only in
--- the counter's page, and SDA released where the sending of a byte ends. Assumes nothing.
+-- What holds of every sample that a reachable part is given: no start and no stop while it holds SDA low, no stop from the
+-- eighth fall of a byte that it keeps to the ninth, marks only in the counter's page, and SDA released where the sending of
+-- a byte ends. Assumes nothing.
 use Prim.Native.Nat.{ℕ, _<_, _≤_}
 use mathlib.Core.Bool.{Bool, true, false, true≢false, _&&_}
 use mathlib.Core.List.{List}
@@ -258,7 +259,7 @@ stands-holds p t =
       size = t .fit .size;
       start = λ e level o f. true≢false (sym (ap isEnd f) ∙ held-inside e level (p .state) g o);
       stop = λ e level n o f. true≢false (sym (ap isEnd f) ∙ held-inside e level (p .state) g o);
-      unacknowledged = λ e level n x f. stop-within e level n (p .state) g (range-within (p .state) (t .fit .range) .bits) x f;
+      before-eighth = λ e level n x f. stop-within e level n (p .state) g (range-within (p .state) (t .fit .range) .bits) x f;
       mark = λ e level i a b. step-stays e level (p .array) (p .state) (λ y. g .talks .opens y .phase) .mark i a b;
       page = λ e level m. step-stays e level (p .array) (p .state) (λ y. g .talks .opens y .phase) .page m;
       released = λ e level x y.

@@ -4,7 +4,8 @@
 -- pulls SDA low only to acknowledge a byte or to send a 0, and while it does so it sees no start and no stop. It holds
 -- bytes for the array only while they come in, with WEL set and the place not locked, all of them in one page; it holds
 -- a byte for the control register only while that is addressed, and never beside them. A sample that ends the sending of
--- a byte leaves SDA released. A stop that cuts a byte off comes before its eighth bit. What the ranges of refusal 4 ask of a state holds after every sample.
+-- a byte leaves SDA released. A stop that cuts a byte off comes before that byte's eighth fall. What the ranges of refusal
+-- 4 ask of a state holds after every sample.
 use Prim.Native.Nat.{ℕ, _<_}
 use mathlib.Core.Bool.{Bool, true, false, _&&_}
 use mathlib.Core.List.{List}
@@ -127,9 +128,9 @@ pub record Holds (p : Part) : Type 0 where
   -- Nor is a stop (State and time, 4).
   pub stop : (e level n : ℕ) → p .state .device .talk .own ≡ false
       → signIn level (opensOf e level (p .state)) ≡ Stop n → ⊥
-  -- A stop that could cut a byte off is never seen between its eighth fall and its ninth: the part acknowledges there (State and time, 4;
-  -- request 2026-02).
-  pub unacknowledged : (e level n : ℕ) → keepsForStop (p .state .device .talk .phase) ≡ true
+  -- A stop that could cut a byte off is never seen from that byte's eighth fall to its ninth: the part acknowledges there
+  -- (State and time, 4; request 2026-02).
+  pub before-eighth : (e level n : ℕ) → keepsForStop (p .state .device .talk .phase) ≡ true
       → signIn level (opensOf e level (p .state)) ≡ Stop n → n < mostBits
   -- A mark that comes to be set is that of the counter's place in its page (Bytes on the wire, array data).
   pub mark : (e level i : ℕ) → getD (p .state .load .marks) i false ≡ false

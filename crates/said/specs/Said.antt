@@ -19,7 +19,7 @@ use Rattle.entries.specs.declared.Entry.{Entry}
 use Rattle.entries.specs.declared.Entry.the-variants.{Start, Stop, Byte, Ninth, CycleBegins, CycleEnds, ResetBegins, ResetEnds}
 use Rattle.sample.specs.Sample.{signIn, Seen, unseen, sees, seenBy}
 
--- A stop by whether it cuts a byte off, its bits, a loaded mark and a pending byte: only a cut drops these (request 2026-02).
+-- A stop by whether it cuts a byte off, its bits, a loaded mark and a pending byte: a cut drops these undone (request 2026-02).
 abbrev pub stopSaysBy : Bool → ℕ → Bool → Bool → Entry
 stopSaysBy cut n marked pending = Stop n cut (cut && marked) (cut && pending)
 

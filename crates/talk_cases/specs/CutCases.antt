@@ -31,7 +31,7 @@ pub record PageCut (part size calm n : ℕ) : Type 0 where
   pub register : stateAfter part size (pageCut n) .device .control ≡ holds 0 true false
   pub counter : stateAfter part size (pageCut n) .device .counter .0 ≡ 0x042
 
--- Then 33h to 040h (request 2026-02: a cancelled stop is else an ordinary stop).
+-- Then 33h to 040h: the part is idle after the cut, WEL still set (Bytes on the wire, any stop; request 2026-02).
 abbrev pub cutThenWrite : List Capture
 cutThenWrite = pageCut 3 ++ brisk (pageWrite 0 0x040 (0x33 ∷ [])) ∷ []
 

@@ -20,12 +20,12 @@ use Rattle.withheld.specs.Withheld.{dataReasonBy, dataReason, registerRe
 use Rattle.withheld.specs.declared.Why.the-variants.{NotWithheld, PageLocked}
 
 -- A page of an extent, between its first and its last.
-pub record Within (x : Extent) (page : ℕ) : Type 0 where
+pub record Inside (x : Extent) (page : ℕ) : Type 0 where
   pub low : x .from ≤ page
   pub high : page < x .to
 
 -- The page of a locked place is one that the stored code locks.
-pub locked-within : (k : Kind) (stored : ℕ) (p : Place) → lockedOf k stored p ≡ true → Within (extentOf k (blockCode stored)) (pageOf p)
+pub locked-within : (k : Kind) (stored : ℕ) (p : Place) → lockedOf k stored p ≡ true → Inside (extentOf k (blockCode stored)) (pageOf p)
 unfolding lockedOf
 locked-within k stored p e =
     let t = and-split (leb (extentOf k (blockCode stored) .from) (pageOf p)) (ltb (pageOf p) (extentOf k (blockCode stored) .to)) e in
@@ -36,14 +36,14 @@ abbrev pub pagesTo : ℕ → ℕ → Extent
 pagesTo first last = record { from = first; to = last + 1 }
 
 -- A lock that is told: the stored code, just the pages that it locks, and the counter's page among them.
-pub record Tells (k : Kind) (d : Device) (code first last : ℕ) : Type 0 where
+pub record TellsLock (k : Kind) (d : Device) (code first last : ℕ) : Type 0 where
   pub stored : code ≡ blockCode (d .control .stored)
   pub extent : extentOf k code ≡ pagesTo first last
   pub low : first ≤ pageOf (d .counter)
   pub high : pageOf (d .counter) ≤ last
 
 -- An extent with a page in it ends one past its last page.
-last-page : (x : Extent) (page : ℕ) → Within x page → x ≡ pagesTo (x .from) (x .to - 1)
+last-page : (x : Extent) (page : ℕ) → Inside x page → x ≡ pagesTo (x .from) (x .to - 1)
 last-page x page w = go (x .from) (x .to) page (w .high)
   where
     go : (from to page : ℕ) → page < to → _≡_ {A = Extent} (record { from = from; to = to }) (pagesTo from (to - 1))
@@ -53,7 +53,7 @@ last-page x page w = go (x .from) (x .to) page (w .high)
 
 module _ (k : Kind) (d : Device) (code first last : ℕ) where
   data-tells : (wel locked : Bool) → lockedOf k (d .control .stored) (d .counter) ≡ locked
-      → dataReasonBy wel locked (blockCode (d .control .stored)) (extentOf k (blockCode (d .control .stored))) ≡ PageLocked code first last → Tells k d code first last
+      → dataReasonBy wel locked (blockCode (d .control .stored)) (extentOf k (blockCode (d .control .stored))) ≡ PageLocked code first last → TellsLock k d code first last
   data-tells false locked h e = absurd (let z : _≡_ {A = ℕ} 0 1 = cc in omega arith)
   data-tells true false h e = absurd (let z : _≡_ {A = ℕ} 0 1 = cc in omega arith)
   data-tells true true h e =
@@ -64,14 +64,14 @@ module _ (k : Kind) (d : Device) (code first last : ℕ) where
       let b : x .to - 1 ≡ last = cc in
       record { stored = c; extent = rw (c, ← a, ← b) (last-page x (pageOf (d .counter)) w); low = omega (arith, w .low, a); high = omega (arith, w .high, b) }
 
-  none-told : NotWithheld ≡ PageLocked code first last → Tells k d code first last
+  none-told : NotWithheld ≡ PageLocked code first last → TellsLock k d code first last
   none-told e = absurd (let z : _≡_ {A = ℕ} 0 1 = cc in omega arith)
 
-  register-tells : (pending : Bool) → registerReasonBy pending ≡ PageLocked code first last → Tells k d code first last
+  register-tells : (pending : Bool) → registerReasonBy pending ≡ PageLocked code first last → TellsLock k d code first last
   register-tells true e = absurd (let z : _≡_ {A = ℕ} 0 1 = cc in omega arith)
   register-tells false e = none-told e
 
-  phase-tells : (p : Phase) → reasonIn p k d ≡ PageLocked code first last → Tells k d code first last
+  phase-tells : (p : Phase) → reasonIn p k d ≡ PageLocked code first last → TellsLock k d code first last
   unfolding dataReason
   phase-tells Idle e = none-told e
   phase-tells Silent e = none-told e
@@ -84,7 +84,7 @@ module _ (k : Kind) (d : Device) (code first last : ℕ) where
   phase-tells SendRegister e = none-told e
 
   -- A locked page is told with the stored code and just the pages that it locks, the counter's among them, for every kind of part.
-  pub lock-tells : reasonOf k d ≡ PageLocked code first last → Tells k d code first last
+  pub lock-tells : reasonOf k d ≡ PageLocked code first last → TellsLock k d code first last
   unfolding reasonOf
   lock-tells e = phase-tells (d .talk .phase) e
 

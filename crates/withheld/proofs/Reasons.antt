@@ -1,19 +1,16 @@
 -- What the reasons have to do with the part's rule. Assumes nothing.
 use Prim.Native.Nat.{ℕ}
 use mathlib.Core.Bool.{Bool, true, false, not, _&&_}
-use mathlib.Core.Path.{_≡_, refl}
-use lib.Dec.{eqb}
-use Rattle.ground.specs.Numbers.{registerAddress}
+use mathlib.Core.Path.{_≡_, refl, sym}
 use Rattle.ground.specs.declared.kinds.Kind.{Kind}
-use Rattle.part.specs.declared.state.BusAddress.{BusAddress}
 use Rattle.part.specs.declared.state.Phase.{Phase}
 use Rattle.part.specs.declared.state.Phase.the-variants.{Idle, Silent, Slave, High, Low, Data, Register, Send, SendRegister}
 use Rattle.part.specs.declared.state.Device.{Device}
 use Rattle.lock.specs.Lock.{blockCode, extentOf, lockedOf}
 use Rattle.lock.specs.declared.Extent.{Extent}
-use Rattle.address.specs.Address.{highOf, lowOf, addressBy}
-use Rattle.address.specs.Talk.{addressOf}
+use Rattle.address.specs.Address.{highOf}
 use Rattle.device.specs.Bytes.{takenOf, dataBy, registerBy, byteIn, byteOf}
+use Rattle.device.proofs.Phases.{low-acknowledged}
 use Rattle.withheld.specs.Withheld.{dataReasonBy, dataReason, registerReasonBy, reasonIn, reasonOf, given, hearsIn, withheldOf}
 
 -- Each row of the tables: the reason is given exactly where SDA is left high.
@@ -27,17 +24,13 @@ register-given : (pending : Bool) (d : Device) (v : ℕ) → given (registerReas
 register-given true d v = refl
 register-given false d v = refl
 
-address-low : (chosen : Bool) (k : Kind) (d : Device) (a : BusAddress) → false ≡ addressBy chosen k d a .talk .own
-address-low true k d a = refl
-address-low false k d a = refl
-
 by-phase : (p : Phase) (k : Kind) (select : ℕ) (d : Device) (v : ℕ) → given (reasonIn p k d) ≡ hearsIn p && byteIn p k select d v .talk .own
-unfolding highOf lowOf takenOf dataReason
+unfolding highOf takenOf dataReason
 by-phase Idle k select d v = refl
 by-phase Silent k select d v = refl
 by-phase Slave k select d v = refl
 by-phase High k select d v = refl
-by-phase Low k select d v = address-low (eqb (addressOf (d .talk .high) v .0) registerAddress) k d (addressOf (d .talk .high) v)
+by-phase Low k select d v = sym (low-acknowledged k d v)
 by-phase Data k select d v =
     data-given (d .control .wel) (lockedOf k (d .control .stored) (d .counter)) (blockCode (d .control .stored)) (extentOf k (blockCode (d .control .stored))) d
 by-phase Register k select d v = register-given (d .control .pending) d v

@@ -4,10 +4,8 @@ use Prim.Native.Nat.{ℕ}
 use mathlib.Core.Bool.{Bool, true, false, true≢false}
 use mathlib.Core.Path.{_≡_, refl}
 use lib.Dec.{eqb, ltb}
-use Rattle.ground.specs.Numbers.{registerAddress}
 use Rattle.ground.specs.Cases.{odd}
 use Rattle.ground.specs.declared.kinds.Kind.{Kind}
-use Rattle.part.specs.declared.state.BusAddress.{BusAddress}
 use Rattle.part.specs.declared.state.Phase.{Phase}
 use Rattle.part.specs.declared.state.Phase.the-variants.{Idle, Silent, Slave, High, Low, Data, Register, Send, SendRegister}
 use Rattle.part.specs.declared.state.Device.{Device}
@@ -16,9 +14,10 @@ use Rattle.part.specs.declared.state.Wire.{Wire}
 use Rattle.wire.specs.Sign.{allButOne, fallSignBy, fallSign, signBy, signOf}
 use Rattle.wire.specs.declared.Sign.{Sign}
 use Rattle.wire.specs.declared.Sign.the-variants.{Quiet, Start, Stop, Bit, Byte, Ninth}
-use Rattle.address.specs.Talk.{addressOf, matches}
-use Rattle.address.specs.Address.{slaveBy, slaveOf, highOf, addressBy, lowOf}
+use Rattle.address.specs.Talk.{matches}
+use Rattle.address.specs.Address.{slaveBy, slaveOf, highOf}
 use Rattle.device.specs.Bytes.{takenOf, dataBy, registerBy, byteIn, byteOf}
+use Rattle.device.proofs.Phases.{low-acknowledged}
 use Rattle.ends.specs.Ends.{keepsForStop}
 
 -- A slave byte leads to no such phase.
@@ -27,11 +26,6 @@ slave-acks false r c d x = absurd (true≢false (cc))
 slave-acks true false c d x = refl
 slave-acks true true false d x = refl
 slave-acks true true true d x = refl
-
--- A whole address is acknowledged.
-address-acks : (b : Bool) (k : Kind) (d : Device) (a : BusAddress) → addressBy b k d a .talk .own ≡ false
-address-acks true k d a = refl
-address-acks false k d a = refl
 
 -- An array byte that is not taken silences the part.
 data-acks : (b : Bool) (d : Device) → keepsForStop (dataBy b d .talk .phase) ≡ true → dataBy b d .talk .own ≡ false
@@ -46,12 +40,12 @@ register-acks false d v x = refl
 -- A byte, by phase.
 acks-in : (p : Phase) (k : Kind) (s v : ℕ) (d : Device) → d .talk .phase ≡ p
     → keepsForStop (byteIn p k s d v .talk .phase) ≡ true → byteIn p k s d v .talk .own ≡ false
-unfolding slaveOf highOf lowOf
+unfolding slaveOf highOf
 acks-in Idle k s v d e x = absurd (true≢false (cc))
 acks-in Silent k s v d e x = absurd (true≢false (cc))
 acks-in Slave k s v d e x = slave-acks (matches s v) (odd v) (d .control .chosen) d x
 acks-in High k s v d e x = refl
-acks-in Low k s v d e x = address-acks (eqb (addressOf (d .talk .high) v .0) registerAddress) k d (addressOf (d .talk .high) v)
+acks-in Low k s v d e x = low-acknowledged k d v
 acks-in Data k s v d e x = data-acks (takenOf k d) d x
 acks-in Register k s v d e x = register-acks (d .control .pending) d v x
 acks-in Send k s v d e x = absurd (true≢false (cc))
