@@ -45,6 +45,8 @@ static void run(const struct side *side, enum operation operation, const struct 
     case WRITE:
         o->answer = side->write(c->part, array, c->array_len, o->out, c->out_len, o->reply, c->reply_len);
         break;
+    case REPLAY_DUMP: /* agree_dumps.c */
+        break;
     }
 }
 

@@ -9,37 +9,50 @@
 #include <time.h>
 #include <unistd.h>
 
-enum { MOST_ROUNDS = 10000 };
+enum { MOST_ROUNDS = 10000, FEWEST_ROUNDS = 25, UNITS_OF_FULL_ROUNDS = 1 << 18 };
 
 static struct result result;
 
-static double now(void)
+static double now(clockid_t clock)
 {
     struct timespec t;
-    clock_gettime(CLOCK_MONOTONIC, &t);
+    clock_gettime(clock, &t);
     return (double)t.tv_sec * 1e9 + (double)t.tv_nsec;
 }
 
 /* Nanoseconds a unit. A replay gets a fresh array for each call, outside the time taken; image calls need none, and are short:
- * they are timed together. */
+ * they are timed together. A dump may take longer than the turn that a busy machine gives a process, so that no round would be
+ * undisturbed: of it the processor's own time is taken. */
 static double time_once(const struct side *side, const struct input *input)
 {
+    bool dumps = input->job->operation == REPLAY_DUMP;
+    clockid_t clock = dumps ? CLOCK_THREAD_CPUTIME_ID : CLOCK_MONOTONIC;
     double took = 0, began;
 
-    if (input->job->operation == REPLAY) {
+    if (dumps || input->job->operation == REPLAY) {
         for (size_t call = 0; call < input->calls; call++) {
             fresh_result(&result, input);
-            began = now();
+            began = now(clock);
             perform(side, input, call, &result);
-            took += now() - began;
+            took += now(clock) - began;
         }
     } else {
-        began = now();
+        began = now(clock);
         for (size_t call = 0; call < input->calls; call++)
             perform(side, input, call, &result);
-        took = now() - began;
+        took = now(clock) - began;
     }
     return took / (double)input->units;
+}
+
+/* As many as were asked for, or fewer of a large input. */
+static unsigned rounds_of(const struct input *input, unsigned rounds)
+{
+    unsigned times = (unsigned)(input->units / UNITS_OF_FULL_ROUNDS), fewer = times > 1 ? rounds / times : rounds;
+
+    if (fewer < FEWEST_ROUNDS)
+        fewer = rounds < FEWEST_ROUNDS ? rounds : FEWEST_ROUNDS;
+    return fewer > MOST_ROUNDS ? MOST_ROUNDS : fewer;
 }
 
 static int ascending(const void *a, const void *b)
@@ -52,8 +65,7 @@ void measure_time(const struct input *input, unsigned rounds, struct cost costs[
 {
     static double took[SIDES][MOST_ROUNDS];
 
-    if (rounds > MOST_ROUNDS)
-        rounds = MOST_ROUNDS;
+    rounds = rounds_of(input, rounds);
     for (int i = 0; i < SIDES; i++) /* warm caches and branch predictors for both alike */
         time_once(&sides[i], input);
     for (unsigned round = 0; round < rounds; round++)

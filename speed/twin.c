@@ -5,7 +5,7 @@
 
 #include <string.h>
 
-static void power_up(struct twin *s, const struct kind *kind, uint8_t select, uint8_t stored)
+void power_up(struct twin *s, const struct kind *kind, uint8_t select, uint8_t stored)
 {
     memset(s, 0, sizeof *s);
     s->kind = *kind;
@@ -278,6 +278,17 @@ static uint8_t step(struct twin *s, uint8_t *array, uint32_t e, uint8_t level)
     return (uint8_t)(s->own | pin << 1 | (s->write_left > 0) << 2);
 }
 
+/* On a copy of the state: for all that the compiler knows a caller's might lie in one of the rows, and would have to be loaded anew
+ * after each answer. */
+void run_samples(struct twin *state, uint8_t *array, const uint32_t *elapsed, const uint8_t *levels, uint8_t *answers,
+                 size_t count)
+{
+    struct twin s = *state;
+    for (size_t i = 0; i < count; i++)
+        answers[i] = step(&s, array, elapsed[i], levels[i]);
+    *state = s;
+}
+
 uint8_t ctwin_replay(uint16_t part, uint8_t select, uint8_t stored,
                      const uint32_t *elapsed, size_t elapsed_len,
                      const uint8_t *levels, size_t levels_len,
@@ -296,8 +307,7 @@ uint8_t ctwin_replay(uint16_t part, uint8_t select, uint8_t stored,
         refusal = replay_refusal(&s, elapsed, elapsed_len, levels, levels_len, array_len, answers_len);
     }
     if (refusal.number == 0)
-        for (size_t i = 0; i < levels_len; i++)
-            answers[i] = step(&s, array, elapsed[i], levels[i]);
+        run_samples(&s, array, elapsed, levels, answers, levels_len);
     reply[0] = refusal.number;
     reply[1] = refusal.number == 0 ? levels_len : refusal.place;
     return 1;

@@ -1,4 +1,5 @@
-/* The C twin's state and figures: for twin.c, which steps it, and refusals.c, which looks at its ranges. */
+/* The C twin's state and figures: for twin.c, which steps it, refusals.c, which looks at its ranges, and whoever replays more than
+ * one row on it. */
 #ifndef TWIN_STATE_H
 #define TWIN_STATE_H
 
@@ -35,6 +36,12 @@ struct twin {
     uint8_t load[PAGE_BYTES];
     bool loaded[PAGE_BYTES];
 };
+
+void power_up(struct twin *s, const struct kind *kind, uint8_t select, uint8_t stored);
+
+/* Steps sample by sample, and leaves the state for the row after this one. No refusal is looked for here. */
+void run_samples(struct twin *state, uint8_t *array, const uint32_t *elapsed, const uint8_t *levels, uint8_t *answers,
+                 size_t count);
 
 /* A refusal number, 0 for none, and its place. */
 struct refusal {

@@ -19,7 +19,7 @@ use Rattle.image.specs.Promises.{imageOf, writeVerdict}
 use Rattle.texts.specs.Numbers.{decimalOf}
 use Rattle.texts.specs.Refusal.{refusalLine}
 use Rattle.tidying.specs.Shown.{textGives, shownOf}
-use Rattle.image_cases.specs.ImageCases.{codesOf}
+use Rattle.codes.specs.Codes.{codesOf}
 use Rattle.captures.specs.Once.{captureVerdict}
 use Rattle.transfers.specs.declared.Listed.{Listed}
 use Rattle.power.specs.Power.{poweredUp}

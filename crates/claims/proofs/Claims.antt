@@ -5,6 +5,12 @@ use Rattle.bent_steps.proofs.Bends.{bent-steps}
 use Rattle.chip_claims.proofs.CutStops.{cut-stops}
 use Rattle.chip_claims.proofs.Chip.{demand-3, replay-demand-3, power-demand-3, computed-form, reachable-states, handed-out, stays-fit, fit-again, cut-anywhere, at-runs}
 use Rattle.image_claims.proofs.Images.{round-trips, intel-trips, lengths, write-then-read, door-trip, tidies, tidy-twice, room-enough, at-paper}
+use Rattle.dump_claims.proofs.Refusals.{dump-refusals}
+use Rattle.dump_claims.proofs.OneOutcome.{one-outcome}
+use Rattle.dump_claims.proofs.Pieces.{joined-pieces}
+use Rattle.dump_claims.proofs.Written.{written}
+use Rattle.dump_cases.proofs.Least.{least-fault}
+use Rattle.dump_cases.proofs.Cases.{dump-cases}
 use Rattle.exactly.proofs.Exactly.{exactly}
 use Rattle.exactly.proofs.Causes.{no-refusal-without-cause}
 use Rattle.claims.specs.AtInputs.{RefusedAt, OneAt}
@@ -52,6 +58,12 @@ claims =
       lengths = lengths;
       room-enough = room-enough;
       at-paper = at-paper;
+      dump-refusals = dump-refusals;
+      one-outcome = one-outcome;
+      joined-pieces = joined-pieces;
+      written = written;
+      least-fault = least-fault;
+      dump-cases = dump-cases;
       one-reply = one-reply;
       some-reply = some-reply;
       one-at = one-at;

@@ -24,6 +24,9 @@ use Rattle.transfers.specs.Transfers.{entriesOf}
 use Rattle.transfers.specs.declared.Listed.{Listed}
 use Rattle.transfers.specs.Promises.{listedBy, laidBy}
 use Rattle.image_claims.proofs.Door.{replyOf, reply-means}
+use Rattle.dumps.specs.Samples.{samplesOf}
+use Rattle.dumps.specs.Faults.{dumpVerdict}
+use Rattle.places.specs.Places.{partAfterAll, placesOf, openVerdict, reportBy, arrayBy, laidOver}
 use Rattle.claims.specs.SomeReply.{SomeReply}
 use Rattle.claims.proofs.Starting.{starts-with}
 
@@ -87,5 +90,19 @@ some-reply =
           let r : Listed = record { reply = replyOf (listedBy v xs); state = partAfter v es ls p .state } in (
             (r, partAfter v es ls p .array, laidBy v xs row),
             record { reply = reply-means (listedBy v xs); state = refl; kept = refl; said = refl },
+          );
+      judge = λ dump. (replyOf (dumpVerdict dump), record { reply = reply-means (dumpVerdict dump) });
+      report = λ part select stored dump array row.
+          let v = openVerdict part select stored dump array in
+          let ps = placesOf part select stored dump array in (
+            (replyOf (reportBy v (length ps)), arrayBy v (partAfterAll (samplesOf dump) (atPower part select stored array) .array) array, arrayBy v (laidOver ps row) row),
+            record { reply = reply-means (reportBy v (length ps)); kept = refl; said = refl },
+          );
+      door-replay-dump = λ part select stored dump array row numbers.
+          let v = openVerdict part select stored dump array in
+          let ps = placesOf part select stored dump array in
+          let f = fits numbers in (
+            (answerBy f, leftOr f (arrayBy v (partAfterAll (samplesOf dump) (atPower part select stored array) .array) array) array, leftOr f (arrayBy v (laidOver ps row) row) row, leftOr f (told (reportBy v (length ps))) numbers),
+            record { answer = refl; reply = refl; kept = refl; said = refl },
           );
     }

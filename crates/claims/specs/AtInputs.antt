@@ -26,7 +26,7 @@ use Rattle.telling.specs.Told.{ReadsThrough, WritesThrough}
 use Rattle.door.specs.Promises.{ReplaysOnce}
 use Rattle.transfers.specs.declared.Listed.{Listed}
 use Rattle.transfers.specs.Promises.{Lists}
-use Rattle.image_cases.specs.ImageCases.{codesOf}
+use Rattle.codes.specs.Codes.{codesOf}
 
 -- An X4323 at power-up (State and time, power-up).
 abbrev pub fresh : State

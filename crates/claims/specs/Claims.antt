@@ -1,4 +1,4 @@
--- All that is claimed of the chip and of its images, in one record: `claims` of proofs/Claims has this type and no argument. Each field is a
+-- All that is claimed of the chip, of its images and of dumps, in one record: `claims` of proofs/Claims has this type and no argument. Each field is a
 -- claim that is closed: what it speaks of and what it asks stands in its own record, in words at its head, and nothing is asked elsewhere.
 -- They speak of outcomes that keep the operations' promises; that the code keeps these, the contracts of the operations say.
 -- For a person from the line: this is the whole list of what you may rely on; each line names a page that says it in full.
@@ -11,6 +11,12 @@ use Rattle.chip_claims.specs.States.{ReachableStates, HandedOut, StaysFit, FitA
 use Rattle.chip_claims.specs.AtRuns.{AtRuns}
 use Rattle.image_claims.specs.Images.{RoundTrips, IntelTrips, Lengths, WriteThenRead, DoorTrip, Tidies, TidyTwice, RoomEnough}
 use Rattle.image_claims.specs.AtPaper.{AtPaper}
+use Rattle.dump_claims.specs.Refusals.{DumpRefusals}
+use Rattle.dump_claims.specs.OneOutcome.{OneOutcome}
+use Rattle.dump_claims.specs.Pieces.{JoinedPieces}
+use Rattle.dump_claims.specs.Written.{Written}
+use Rattle.dump_cases.specs.Least.{LeastFault}
+use Rattle.dump_cases.specs.Cases.{DumpCases}
 use Rattle.exactly.specs.Exactly.{Exactly}
 use Rattle.exactly.specs.Causes.{NoRefusalWithoutCause}
 use Rattle.claims.specs.Demand1.{Demand1}
@@ -58,6 +64,14 @@ pub record Claims : Type 0 where
   pub room-enough : RoomEnough
   -- The claims on images, used at the image that the paper shows.
   pub at-paper : AtPaper
+  -- Dumps: a refusal says its number and line and changes nothing; one reply; pieces are one run; what the program writes; the verdict is the least fault; dumps
+  -- that were worked by hand.
+  pub dump-refusals : DumpRefusals
+  pub one-outcome : OneOutcome
+  pub joined-pieces : JoinedPieces
+  pub written : Written
+  pub least-fault : LeastFault
+  pub dump-cases : DumpCases
   -- For each public operation and every input there is only one possible reply, and there is one.
   pub one-reply : OneReply
   pub some-reply : SomeReply

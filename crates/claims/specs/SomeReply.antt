@@ -15,7 +15,9 @@ use Rattle.image.specs.Promises.{ReadsImage, WritesImage}
 use Rattle.texts.specs.Laying.{Starts}
 use Rattle.tidying.specs.Shown.{shownOf}
 use Rattle.telling.specs.Told.{ReadsThrough, WritesThrough}
-use Rattle.door.specs.Promises.{ReplaysOnce}
+use Rattle.door.specs.Promises.{ReplaysOnce, ReplaysDump}
+use Rattle.judging.specs.Promises.{Judges}
+use Rattle.disagreements.specs.Promises.{Reports}
 use Rattle.transfers.specs.declared.Listed.{Listed}
 use Rattle.transfers.specs.Promises.{Lists}
 
@@ -42,3 +44,8 @@ pub record SomeReply : Type 0 where
       → Some (λ ((r, out′, numbers′) : ℕ × List ℕ × List ℕ). WritesThrough part array out numbers r out′ numbers′)
   pub list : (s : State) (es ls array row : List ℕ)
       → Some (λ ((r, array′, row′) : Listed × List ℕ × List ℕ). Lists s es ls array row r array′ row′)
+  pub judge : (dump : List ℕ) → Some (Judges dump)
+  pub report : (part select stored : ℕ) (dump array row : List ℕ)
+      → Some (λ ((r, array′, row′) : Reply × List ℕ × List ℕ). Reports part select stored dump array row r array′ row′)
+  pub door-replay-dump : (part select stored : ℕ) (dump array row numbers : List ℕ)
+      → Some (λ ((r, array′, row′, numbers′) : ℕ × List ℕ × List ℕ × List ℕ). ReplaysDump part select stored dump array row numbers r array′ row′ numbers′)

@@ -11,7 +11,6 @@ use lib.Dec.{leb}
 use lib.ListN.{length, getD, take, length-append}
 use borrow.Author.Tests.{eq-eqb, le-leb, leb-true}
 use Rattle.ground.specs.Numbers.{mostElapsed, mostLevel, mostSamples}
-use Rattle.ground.specs.Kind.{kindOf}
 use Rattle.part.specs.declared.state.State.{State}
 use Rattle.levels.specs.Level.{answerOf}
 use Rattle.ground.specs.Verdict.{Verdict, accepted, meant}
@@ -26,30 +25,7 @@ use Rattle.twin.specs.Promises.{Replays, Runs}
 use Rattle.demand2.specs.Demand2.{ByRules, Pieces, Counted, Demand2}
 use Rattle.demand2.proofs.Judged.{judged-fit}
 use Rattle.ranges.specs.Fit.{Fit}
-use Rattle.ranges.proofs.InRange.{run-fit}
-
--- Rows joined are run one after the other.
-pub run-append : (es₁ ls₁ es₂ ls₂ : List ℕ) (p : Part) → length es₁ ≡ length ls₁
-    → runOf (es₁ ++ es₂) (ls₁ ++ ls₂) p ≡ runOf es₂ ls₂ (runOf es₁ ls₁ p)
-run-append [] [] es₂ ls₂ p h = refl
-run-append [] (l ∷ ls) es₂ ls₂ p h = absurd (omega arith)
-run-append (e ∷ es) [] es₂ ls₂ p h = absurd (omega arith)
-run-append (e ∷ es) (l ∷ ls) es₂ ls₂ p h = run-append es ls es₂ ls₂ (partStep e l p) (omega arith)
-
--- Rows joined are answered one after the other.
-pub answers-append : (es₁ ls₁ es₂ ls₂ : List ℕ) (p : Part) → length es₁ ≡ length ls₁
-    → answersOf (es₁ ++ es₂) (ls₁ ++ ls₂) p ≡ answersOf es₁ ls₁ p ++ answersOf es₂ ls₂ (runOf es₁ ls₁ p)
-answers-append [] [] es₂ ls₂ p h = refl
-answers-append [] (l ∷ ls) es₂ ls₂ p h = absurd (omega arith)
-answers-append (e ∷ es) [] es₂ ls₂ p h = absurd (omega arith)
-answers-append (e ∷ es) (l ∷ ls) es₂ ls₂ p h = rw (answers-append es ls es₂ ls₂ (partStep e l p) (omega arith))
-
--- There is one answer for each sample.
-pub answers-length : (es ls : List ℕ) (p : Part) → length es ≡ length ls → length (answersOf es ls p) ≡ length ls
-answers-length [] [] p h = refl
-answers-length [] (l ∷ ls) p h = absurd (omega arith)
-answers-length (e ∷ es) [] p h = absurd (omega arith)
-answers-length (e ∷ es) (l ∷ ls) p h = ap suc (answers-length es ls (partStep e l p) (omega arith))
+use Rattle.onward.proofs.Onward.{run-append, answers-append, answers-length, fit-judged, run-fit}
 
 -- Each answer is that of the part after the samples up to its own.
 answers-each : (es ls : List ℕ) (p : Part) (i : ℕ) → i < length es → i < length ls
@@ -187,16 +163,6 @@ runs-joined s t u es₁ ls₁ es₂ ls₂ array array₁ array₂ row row₁ row
       kept = rw (g, ← m) (y .kept);
       said = cc (ap (answersOf es₂ ls₂) m);
     }
-
--- A part that passes the tests of refusals 4 and 5, with few enough rows of one length and no faulty sample.
-fit-judged : (p : Part) (es ls row : List ℕ) → Fit p → length es ≡ length ls → length ls ≤ mostSamples
-    → length row ≡ length ls → samplesOf 0 es ls (accepted (length ls)) ≡ accepted (length ls)
-    → judgedOf (p .state) es ls (p .array) row ≡ accepted (length ls)
-unfolding judgedOf
-fit-judged p es ls row g e m a h =
-    let same = eq-eqb (length ls) (length ls) refl in
-    let sized = eq-eqb (length (p .array)) (kindOf (p .state .chip .part) .size) (g .size) in
-    rw (g .range, sized, e, same, le-leb (length ls) mostSamples m, a, same, h)
 
 module _ (es₁ ls₁ es₂ ls₂ : List ℕ) (p : Part) (row row₁ row₂ : List ℕ) (n : ℕ) (e : length es₁ ≡ length ls₁)
     (j : judgedOf (p .state) (es₁ ++ es₂) (ls₁ ++ ls₂) (p .array) row ≡ accepted n) where

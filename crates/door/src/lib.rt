@@ -1,8 +1,8 @@
-// The twin and the images for other languages, over numbers and slices; include/qillampu.h declares the three
+// The twin, its dumps and the images for other languages, over numbers and slices; include/qillampu.h declares the four
 // functions for C. None has a `requires`, and each says for every input its answer, the reply row and what each
 // lent row holds at the end.
 ghost use Rattle.telling.specs.Told.{ReadsThrough, WritesThrough};
-ghost use Rattle.door.specs.Promises.{ReplaysOnce};
+ghost use Rattle.door.specs.Promises.{ReplaysOnce, ReplaysDump};
 
 // Power-up and the replay of one capture.
 #[no_mangle]
@@ -24,6 +24,29 @@ pub extern "C" fn qillampu_replay(
     telling::tell(
         reply,
         captures::capture(part, select, stored, elapsed, levels, array, answers),
+    );
+    telling::DONE
+}
+
+// Power-up and the replay of a whole dump: the places where it and the twin disagree.
+#[no_mangle]
+pub extern "C" fn qillampu_replay_dump(
+    part: u16,
+    select: u8,
+    stored: u8,
+    dump: &[u8],
+    array: &mut [u8],
+    places: &mut [u64],
+    reply: &mut [u64],
+) -> u8
+    ensures { λ r. ⌜ ReplaysDump part select stored (now (dump .entry)) (now (array .entry)) (now (places .entry)) (now (reply .entry)) r (now (array .exit)) (now (places .exit)) (now (reply .exit)) ⌝ }
+{
+    if reply.len() != telling::NUMBERS {
+        return telling::NOT_DONE;
+    }
+    telling::tell(
+        reply,
+        disagreements::report(part, select, stored, dump, array, places),
     );
     telling::DONE
 }

@@ -1,11 +1,10 @@
 -- The bench cases of image files (document 01, Bench cases, P10 and P11), for an X4323 and for an X4283 (request 2026-01). Parts, sizes and
 -- rooms stand in them as numbers.
 use Prim.Native.Nat.{ℕ, _≤_}
-use Prim.Native.Char.{code}
-use Prim.Native.String.{String, [] as ended, _∷_ as _before_}
 use mathlib.Core.List.{List, [], _∷_, _++_}
 use mathlib.Core.Path.{_≡_}
 use lib.ListN.{length, drop, replicate, set}
+use Rattle.codes.specs.Codes.{codesOf}
 use Rattle.ground.specs.Verdict.{accepted, refused, meant}
 use Rattle.ground.specs.declared.Reply.{Reply}
 use Rattle.forms.specs.Reading.{taken, bad, readingOf}
@@ -13,11 +12,6 @@ use Rattle.forms.specs.Writing.{imageText}
 use Rattle.intel.specs.Intel.{intel}
 use Rattle.image.specs.Promises.{ReadsImage, WritesImage}
 use Rattle.tidying.specs.Shown.{shownOf}
-
--- The characters of a text as numbers (Image files, the text shown).
-abbrev pub codesOf : String → List ℕ
-codesOf ended = []
-codesOf (c before s) = code c ∷ codesOf s
 
 -- The image that the paper shows, of so many bytes: all FFh but 4Ch at 0010h (Image files, all FFh but).
 abbrev pub paperArray : ℕ → List ℕ

@@ -4,33 +4,25 @@ use mathlib.Core.Bool.{Bool, true, false, true≢false}
 use mathlib.Core.List.{List, [], _∷_, _++_}
 use mathlib.Core.Path.{_≡_, refl, ap, sym, subst, _∙_}
 use native.Mathlib.Omega.{arith}
-use lib.Dec.{leb, ltb}
+use lib.Dec.{ltb}
 use lib.ListN.{length, length-append}
 use borrow.Author.Tests.{lt-ltb, ltb-true}
-use Rattle.ground.specs.Numbers.{mostSelect, mostBits}
+use Rattle.ground.specs.Numbers.{mostBits}
 use Rattle.ground.specs.Cases.{highest}
-use Rattle.ground.specs.Kind.{kindOf, known}
+use Rattle.ground.specs.Kind.{kindOf}
 use Rattle.page.specs.Page.{at, marked}
 use Rattle.part.specs.declared.state.Phase.the-variants.{Idle}
 use Rattle.part.specs.declared.state.State.{State}
 use Rattle.ground.proofs.Tests.{and-split}
-use Rattle.ground.proofs.Known.{kind-sound}
 use Rattle.ground.specs.Verdict.{accepted}
-use Rattle.refusals.specs.Refusals.{storable, powerBy, powerOf, inRange}
+use Rattle.refusals.specs.Refusals.{powerOf, inRange}
 use Rattle.sample.specs.Run.{Part, partStep, runOf}
 use Rattle.power.specs.Power.{poweredUp, atPower}
 use Rattle.reachable.specs.Reachable.{Reachable, speaks, sendsNow, Lowers, acknowledges, sendsZero, Keeps}
 use Rattle.reachable.proofs.Kept.Talks.{Voice, rests, answers, sends, fresh}
 use Rattle.ranges.specs.Fit.{Fit}
-use Rattle.ranges.proofs.InRange.{Within, within-range, run-fit}
+use Rattle.onward.proofs.Onward.{run-append, power-fit, run-fit}
 use Rattle.reachable.proofs.Kept.Steps.{Sits, step-sits}
-
--- An accepted power-up has passed the tests of refusals 1 to 3.
-power-passed : (a b c : Bool) → powerBy a b c ≡ accepted 0 → (a ≡ true) × (b ≡ true) × (c ≡ true)
-power-passed true true true e = (refl, refl, refl)
-power-passed true true false e = absurd (true≢false (cc))
-power-passed true false c e = absurd (true≢false (cc))
-power-passed false b c e = absurd (true≢false (cc))
 
 -- The state at a power-up.
 power-sits : (part select stored : ℕ) → Sits (poweredUp part select stored)
@@ -43,20 +35,6 @@ power-sits part select stored =
           refl refl;
       line = λ x y. cc;
       acks = λ x y. absurd (omega arith);
-    }
-
--- At an accepted one, it is within the eight ranges.
-power-within : (part select stored : ℕ) → powerOf part select stored ≡ accepted 0 → Within (poweredUp part select stored)
-unfolding powerOf poweredUp
-power-within part select stored e =
-    let t = power-passed (known part) (leb select mostSelect) (storable stored) e in
-    record {
-      counter = kind-sound part (t .0) .some;
-      bits = omega arith;
-      times = record { write = omega arith; hold = omega arith; left = omega arith };
-      part = t .0;
-      select = t .1;
-      stored = t .2;
     }
 
 -- A part whose state keeps all, within the eight ranges, beside an array of its kind's size.
@@ -76,11 +54,11 @@ pub reachable-stands : (p : Part) → Reachable p → Stands p
 unfolding poweredUp
 reachable-stands p r =
     let q = atPower (r .part) (r .select) (r .stored) (r .array) in
-    let w = power-within (r .part) (r .select) (r .stored) (r .given) in
+    let f = power-fit (r .part) (r .select) (r .stored) (r .array) 0 (r .given) (r .size) in
     subst (λ (x : Part). Stands x) (r .reached)
     (record {
       sits = run-sits (r .es) (r .ls) q (power-sits (r .part) (r .select) (r .stored));
-      fit = run-fit (r .es) (r .ls) q (record { range = within-range (q .state) w; size = r .size });
+      fit = run-fit (r .es) (r .ls) q f;
     })
 
 -- In a phase of a read, below the eighth bit, a byte is being sent.
@@ -161,14 +139,6 @@ power-reachable part select stored array e h =
       reached = refl;
     }
 
--- Rows after rows are the joined rows.
-run-joined : (es ls fs ms : List ℕ) (p : Part) → length es ≡ length ls
-    → runOf (es ++ fs) (ls ++ ms) p ≡ runOf fs ms (runOf es ls p)
-run-joined [] [] fs ms p e = refl
-run-joined [] (l ∷ ls) fs ms p e = absurd (omega arith)
-run-joined (e ∷ es) [] fs ms p h = absurd (omega arith)
-run-joined (e ∷ es) (l ∷ ls) fs ms p h = run-joined es ls fs ms (partStep e l p) (omega arith)
-
 -- A reachable part stays reachable through further rows.
 pub reachable-on : (p : Part) → Reachable p → (es ls : List ℕ) → length es ≡ length ls → Reachable (runOf es ls p)
 reachable-on p r es ls h =
@@ -183,6 +153,6 @@ reachable-on p r es ls h =
       size = r .size;
       rows = simp length-append (omega arith);
       reached =
-          run-joined (r .es) (r .ls) es ls (atPower (r .part) (r .select) (r .stored) (r .array)) (r .rows)
+          run-append (r .es) (r .ls) es ls (atPower (r .part) (r .select) (r .stored) (r .array)) (r .rows)
           ∙ ap (runOf es ls) (r .reached);
     }

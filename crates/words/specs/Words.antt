@@ -71,3 +71,12 @@ widestPart = 65535
 abbrev pub partNamed : Bool → List ℕ → ℕ
 partNamed false word = x4323
 partNamed true word = countsAs widestPart word
+
+-- The largest number that a field of one byte takes (request 2026-03, select and stored byte come with the dump).
+abbrev pub widestByte : ℕ
+widestByte = 255
+
+-- The select or the stored byte that a program's word gives; 0 where there is none (request 2026-03, select, stored byte).
+abbrev pub byteNamed : Bool → List ℕ → ℕ
+byteNamed false word = 0
+byteNamed true word = countsAs widestByte word

@@ -2,12 +2,14 @@
 use ground::kinds;
 ghost use mathlib.Core.Path.{_≡_};
 ghost use Prim.Native.Nat.{_+_, _*_, min};
-ghost use Rattle.words.specs.Words.{partNamed, figureOf, numeral, figuresValue, isNumber, countsAs};
+ghost use Rattle.words.specs.Words.{partNamed, byteNamed, figureOf, numeral, figuresValue, isNumber, countsAs};
 ghost use Rattle.words.specs.Marks.{MarkEnds};
 
 const TEN: u8 = 10;
 
 const WIDEST_PART: u32 = 65_535;
+
+const WIDEST_BYTE: u32 = 255;
 
 // The part where no word names one.
 pub const LEFT_OUT: u16 = kinds::X4323;
@@ -123,4 +125,14 @@ pub fn part_named(given: bool, word: &[u8]) -> u16
         return number_of(word, WIDEST_PART) as u16;
     }
     LEFT_OUT
+}
+
+// The select or the stored byte that a program's word gives, if there is a word.
+pub fn byte_named(given: bool, word: &[u8]) -> u8
+    ensures { λ r. ⌜ r ≡ byteNamed given (now (word .entry)) ⌝ }
+{
+    if given {
+        return number_of(word, WIDEST_BYTE) as u8;
+    }
+    0
 }

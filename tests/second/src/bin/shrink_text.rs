@@ -1,15 +1,17 @@
-//! Makes an image text shorter while two programs still say different things
-//! to it.
+//! Makes an image text or a dump shorter while two programs still say different
+//! things to it.
 //!
-//! usage: shrink_text A B TEXT FOLDER
+//! usage: shrink_text A B TEXT FOLDER [WORD...]
 //!
-//! A and B are programs like `tidy_cases`, arguments and all. The folder gets
-//! whole.hex, short.hex and what each program says to the short one.
+//! A and B are programs like `tidy_cases` or `replay_cases`, arguments and all.
+//! For each text they get its name and after it the words, if there are some.
+//! The folder gets the text whole and short, both with the ending of TEXT, and
+//! what each program says to the short one.
 //! Exit status: 0 done, 1 the text makes no difference, 2 trouble.
 
 use std::io;
 use std::ops::Range;
-use std::path::PathBuf;
+use std::path::{Path, PathBuf};
 use std::process::{exit, Command, Stdio};
 
 /// So many bytes are tried in all: a text that only differs because of its
@@ -22,17 +24,21 @@ const RUN_BYTES: usize = 2_000_000;
 struct Shrinker {
     programs: [String; 2],
     folder: PathBuf,
+    /// How the texts' names end.
+    ending: String,
+    /// What stands after each of them.
+    words: Vec<String>,
     text: Vec<u8>,
     bytes_left: usize,
 }
 
 fn main() {
     let args: Vec<String> = std::env::args().skip(1).collect();
-    let [a, b, text, folder] = args.as_slice() else {
-        eprintln!("usage: shrink_text A B TEXT FOLDER");
+    let [a, b, text, folder, words @ ..] = args.as_slice() else {
+        eprintln!("usage: shrink_text A B TEXT FOLDER [WORD...]");
         exit(2);
     };
-    match run([a.clone(), b.clone()], text, folder.into()) {
+    match run([a.clone(), b.clone()], text, folder.into(), words) {
         Ok(true) => {}
         Ok(false) => exit(1),
         Err(error) => {
@@ -42,13 +48,16 @@ fn main() {
     }
 }
 
-fn run(programs: [String; 2], text: &str, folder: PathBuf) -> io::Result<bool> {
+fn run(programs: [String; 2], name: &str, folder: PathBuf, words: &[String]) -> io::Result<bool> {
     std::fs::create_dir_all(&folder)?;
-    let text = std::fs::read(text)?;
-    std::fs::write(folder.join("whole.hex"), &text)?;
+    let text = std::fs::read(name)?;
+    let ending = Path::new(name).extension().unwrap_or_default().to_string_lossy().into_owned();
+    std::fs::write(folder.join(format!("whole.{ending}")), &text)?;
     let mut work = Shrinker {
         programs,
         folder,
+        ending,
+        words: words.to_vec(),
         text: text.clone(),
         bytes_left: MOST_BYTES,
     };
@@ -56,16 +65,18 @@ fn run(programs: [String; 2], text: &str, folder: PathBuf) -> io::Result<bool> {
         println!("alone the text makes no difference");
         return Ok(false);
     }
-    // Lines first, as they are what a text is made of.
+    // Lines first, as they are what a text is made of, and tokens where a line
+    // has several.
     loop {
         let before = work.text.len();
         work.drop_pieces(lines)?;
+        work.drop_pieces(tokens)?;
         work.drop_pieces(|text| (0..text.len()).map(|place| place..place + 1).collect())?;
         if work.text.len() == before {
             break;
         }
     }
-    let short = work.folder.join("short.hex");
+    let short = work.folder.join(format!("short.{}", work.ending));
     std::fs::write(&short, &work.text)?;
     println!(
         "shrunk from {} bytes to {}: {:?}",
@@ -74,7 +85,7 @@ fn run(programs: [String; 2], text: &str, folder: PathBuf) -> io::Result<bool> {
         String::from_utf8_lossy(&work.text[..work.text.len().min(200)])
     );
     for (side, program) in ["a", "b"].iter().zip(&work.programs) {
-        let said = said_by(program, &[short.clone()])?;
+        let said = said_by(program, &[short.clone()], &work.words)?;
         std::fs::write(work.folder.join(format!("short.{side}.reply")), said)?;
     }
     println!("kept in {}", work.folder.display());
@@ -90,6 +101,15 @@ fn lines(text: &[u8]) -> Vec<Range<usize>> {
             begin - line.len()..begin
         })
         .collect()
+}
+
+/// Runs of bytes that aren't blank, each with the blanks after it.
+fn tokens(text: &[u8]) -> Vec<Range<usize>> {
+    let blank = |place: usize| text[place].is_ascii_whitespace();
+    let begins: Vec<usize> =
+        (0..text.len()).filter(|&at| !blank(at) && (at == 0 || blank(at - 1))).collect();
+    let ends = begins.iter().skip(1).copied().chain([text.len()]);
+    begins.iter().zip(ends).map(|(&begin, end)| begin..end).collect()
 }
 
 impl Shrinker {
@@ -142,12 +162,12 @@ impl Shrinker {
         self.bytes_left = self.bytes_left.saturating_sub(bytes);
         let mut names = Vec::new();
         for (index, text) in tries.iter().enumerate() {
-            let name = self.folder.join(format!("try-{index}.hex"));
+            let name = self.folder.join(format!("try-{index}.{}", self.ending));
             std::fs::write(&name, text)?;
             names.push(name);
         }
-        let a = said_by(&self.programs[0], &names)?;
-        let b = said_by(&self.programs[1], &names)?;
+        let a = said_by(&self.programs[0], &names, &self.words)?;
+        let b = said_by(&self.programs[1], &names, &self.words)?;
         for name in &names {
             std::fs::remove_file(name)?;
         }
@@ -162,14 +182,17 @@ impl Shrinker {
 
 /// What a program says to files, one after another. One that fails says less
 /// than it should, which is a difference like another.
-fn said_by(program: &str, names: &[PathBuf]) -> io::Result<Vec<u8>> {
+fn said_by(program: &str, names: &[PathBuf], words: &[String]) -> io::Result<Vec<u8>> {
     let mut parts = program.split_whitespace();
     let name = parts
         .next()
         .ok_or_else(|| io::Error::other("no program is named"))?;
-    let output = Command::new(name)
-        .args(parts)
-        .args(names)
+    let mut command = Command::new(name);
+    command.args(parts);
+    for name in names {
+        command.arg(name).args(words);
+    }
+    let output = command
         .stderr(Stdio::null())
         .output()
         .map_err(|error| io::Error::other(format!("{name}: {error}")))?;

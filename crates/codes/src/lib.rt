@@ -1,0 +1,1 @@
+// No function: texts in definitions, as the numbers of their characters.

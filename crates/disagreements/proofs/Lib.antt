@@ -1,0 +1,3 @@
+pub mod Piecewise
+pub mod Turns
+pub mod Openings

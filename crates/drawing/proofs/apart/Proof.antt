@@ -1,0 +1,12 @@
+-- `drawing::apart` meets its contract.
+use Rattle.drawing.proofs.apart.Statement.{statement}
+use Rattle.drawing.proofs.apart.Tie as tie
+
+returns : tie.Need-returns
+returns c = rw (c .if1 .taken)
+
+returns-2 : tie.Need-returns-2
+returns-2 c = rw (c .if1 .left)
+
+pub apart-spec : {M : Type 1} → statement M
+apart-spec = tie.close (tie.spec returns returns-2)

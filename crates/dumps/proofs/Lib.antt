@@ -1,0 +1,4 @@
+pub mod Taken
+pub mod Silent
+pub mod Inside
+pub mod SampleLaws

@@ -1,0 +1,4 @@
+pub mod Reading
+pub mod Defined
+pub mod Samples
+pub mod Faults

@@ -1,0 +1,1 @@
+// What a dump means: no function, only the definitions that the crates above promise.

@@ -1,0 +1,84 @@
+-- Laws of the table of marks. Assumes nothing.
+use Prim.Native.Nat.{ℕ, suc, _+_, _-_, _<_, _≤_}
+use mathlib.Core.Bool.{Bool, true, false, _&&_}
+use mathlib.Core.List.{List, [], _∷_, _++_, append-assoc, append-nil}
+use mathlib.Core.Path.{_≡_, refl, sym, _∙_}
+use native.Mathlib.Omega.{arith}
+use lib.Dec.{eqb}
+use lib.ListN.{length, getD, set, take, replicate, length-set, length-replicate, getD-replicate}
+use lib.Seq.{take-suc-set, take-all, getD-set-same, getD-set-other}
+use borrow.Author.Tests.{eqb-true, eqb-false}
+use Rattle.wires.specs.Wires.{Var, marked, marksBy, marksOf, wireOf}
+use Rattle.headings.specs.Parts.{Tabled, declaredIn}
+
+-- One turn of the clearing: a nought is stored, and what is left is cleared behind it.
+pub clear-turn : (row : List ℕ) (i n : ℕ) → i < length row → length row ≡ n
+    → take (suc i) (set row i 0) ++ replicate (n - suc i) 0 ≡ take i row ++ replicate (n - i) 0
+clear-turn row i n h e =
+    let k : n - i ≡ suc (n - suc i) = omega arith in
+    rw (take-suc-set row i 0 h, k, append-assoc)
+
+pub clear-done : (row : List ℕ) (i n : ℕ) {whole : List ℕ} → length row ≤ i → n ≤ i
+    → take i row ++ replicate (n - i) 0 ≡ whole → row ≡ whole
+clear-done row i n h k e =
+    let z : n - i ≡ 0 = omega arith in
+    sym (append-nil row) ∙ (rw (z, take-all i row h) at e)
+
+-- A cleared table is that of no wire.
+pub tabled-none : (table : List ℕ) (n : ℕ) → n ≡ 256 → table ≡ replicate n 0 → Tabled [] table
+tabled-none table n h e =
+    record {
+      size = rw (e, length-replicate) h;
+      entry = λ c k. rw e (getD-replicate n c 0 0 (omega arith));
+    }
+
+-- A code of one character is declared at its place.
+pub declared-one : (table code : List ℕ) (wire : ℕ) {c m : ℕ} → length code ≡ 1 → c ≡ getD code 0 0
+    → m ≡ marked (getD table c 0) wire → set table c m ≡ declaredIn table code wire
+unfolding declaredIn
+declared-one table [] wire h e f = absurd (omega arith)
+declared-one table (d ∷ []) wire h e f = rw (f, e)
+declared-one table (d ∷ f ∷ ds) wire h e g = absurd (omega arith)
+
+-- And any other nowhere.
+pub declared-other : (table code : List ℕ) (wire : ℕ) → (length code ≡ 1 → ⊥) → table ≡ declaredIn table code wire
+unfolding declaredIn
+declared-other table [] wire h = refl
+declared-other table (d ∷ []) wire h = absurd (h refl)
+declared-other table (d ∷ f ∷ ds) wire h = refl
+
+-- No entry's code is a longer one.
+never : (b : Bool) (wire marks : ℕ) → marks ≡ marksBy (b && false) wire marks
+never true wire marks = refl
+never false wire marks = refl
+
+-- An entry, by whether its code is the one declared.
+module _ (vars : List Var) (table : List ℕ) (d : ℕ) (name : List ℕ) (t : Tabled vars table) where
+  entry-by : (c : ℕ) (b : Bool) → c < 256 → eqb c d ≡ b
+      → getD (set table d (marked (getD table d 0) (wireOf name))) c 0
+      ≡ marksBy (b && true) (wireOf name) (marksOf vars (c ∷ []))
+  entry-by c true h e =
+      let g : c ≡ d = eqb-true c d e in
+      let k = t .size in
+      rw (← g, getD-set-same table c (marked (getD table c 0) (wireOf name)) 0 (omega arith), t .entry c h)
+  entry-by c false h e = getD-set-other table d c _ 0 (eqb-false c d e) ∙ t .entry c h
+
+-- The table with one more wire is that of the wires with one more.
+pub tabled-more : (vars : List Var) (table code name : List ℕ) → Tabled vars table
+    → Tabled (record { code = code; name = name } ∷ vars) (declaredIn table code (wireOf name))
+unfolding declaredIn
+tabled-more vars table [] name t = record { size = t .size; entry = λ c h. t .entry c h }
+tabled-more vars table (d ∷ []) name t =
+    record {
+      size = length-set table d (marked (getD table d 0) (wireOf name)) ∙ t .size;
+      entry = λ c h. entry-by vars table d name t c (eqb c d) h refl;
+    }
+tabled-more vars table (d ∷ f ∷ ds) name t =
+    record { size = t .size; entry = λ c h. t .entry c h ∙ never (eqb c d) (wireOf name) (marksOf vars (c ∷ [])) }
+
+-- The marks of a code of one character.
+pub tabled-mark : (vars : List Var) (table code : List ℕ) {c : ℕ} → Tabled vars table → length code ≡ 1 → c ≡ getD code 0 0 → c < 256
+    → getD table c 0 ≡ marksOf vars code
+tabled-mark vars table [] t h e k = absurd (omega arith)
+tabled-mark vars table (d ∷ []) {c} t h e k = t .entry c k ∙ rw e
+tabled-mark vars table (d ∷ f ∷ ds) t h e k = absurd (omega arith)

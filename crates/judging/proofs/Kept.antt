@@ -1,0 +1,123 @@
+-- What is kept while a dump is judged token after token, at the start and at the end. Assumes nothing.
+use Prim.Native.Nat.{ℕ, _+_, _-_, _≤_}
+use mathlib.Core.Bool.{Bool, true, false, not}
+use mathlib.Core.List.{List, []}
+use mathlib.Core.Path.{_≡_, refl, ap, sym, _∙_}
+use native.Mathlib.Omega.{arith}
+use lib.Dec.{eqb, ltb}
+use lib.ListN.{length, drop}
+use borrow.Author.Tests.{eqb-true, eqb-false}
+use Rattle.ground.specs.Verdict.{meant}
+use Rattle.ground.specs.declared.Reply.{Reply}
+use Rattle.tokens.specs.Tokens.{tokensFrom, wordsOf, lastLine}
+use Rattle.wires.specs.Times.{highestTime}
+use Rattle.dumps.specs.Reading.{Reading}
+use Rattle.dumps.specs.Defined.{bodyAt}
+use Rattle.dumps.specs.Samples.{samplesOf}
+use Rattle.dumps.specs.Faults as dumped
+use Rattle.dumps.specs.Faults.{note, faultsFrom, faultsOf, verdictBy, dumpVerdict}
+use Rattle.headings.specs.declared.Heading.{Heading}
+use Rattle.headings.specs.declared.faults.Fault.{Fault}
+use Rattle.headings.specs.Parts.{Defines, joinedBy, joinedOf}
+use Rattle.headings.proofs.FaultLaws.{joined-verdict, joined-small}
+use Rattle.changes.specs.declared.Mode.{Mode}
+use Rattle.changes.specs.declared.Mode.the-variants.{Between}
+use Rattle.changes.specs.Parts.{placeOf}
+use Rattle.judging.specs.declared.Heard.{Heard}
+use Rattle.judging.specs.Promises.{Judges}
+use Rattle.judging.specs.Parts.{heardOf, mostCounted, laterOf}
+use Rattle.judging.proofs.CountLaws.{later-samples}
+
+-- The reading behind the definitions, as far as it was heard.
+abbrev pub readingAt : List ℕ → Mode → Heard → Reading
+readingAt dump mode heard = bodyAt dump (placeOf mode) (ltb 0 (heard .lines))
+
+-- What is kept from token to token: the first fault so far and those of what is left give the dump's verdict, and as long as there is none,
+-- the samples so far and those of what is left are the dump's.
+pub record Kept (dump : List ℕ) (at line : ℕ) (fault : Fault) (mode : Mode) (heard : Heard) : Type 0 where
+  pub inside : at ≤ length dump
+  pub small : line ≤ at
+  pub faulty : fault .line ≤ length dump
+  pub early : heard .time ≤ highestTime
+  pub lines : heard .lines ≤ at
+  pub unbegun : heard .lines ≡ 0 → heard .time ≡ 0
+  pub fits : fault .number ≡ 0 → heard .samples ≤ at + heard .time
+  pub verdict : (count : ℕ) → verdictBy (faultsOf dump) count
+      ≡ verdictBy (note (fault .line) (fault .number) (faultsFrom (readingAt dump mode heard) (heardOf heard) (tokensFrom line (drop at dump)) (lastLine dump))) count
+  pub samples : fault .number ≡ 0
+      → heard .samples + laterOf (readingAt dump mode heard) (wordsOf (drop at dump)) (heard .time) ≡ length (samplesOf dump)
+
+-- Where the definitions are over nothing was heard.
+pub kept-start : (dump table : List ℕ) (r : Heading) → Defines dump r table → r .over ≡ true
+    → Kept dump (r .at) (r .line) (r .fault) Between (record { lines = 0; time = 0; given = 0; samples = 0 })
+kept-start dump table r d o =
+    record {
+      inside = d .inside;
+      small = d .small;
+      faulty = d .faulty;
+      early = omega arith;
+      lines = omega arith;
+      unbegun = λ e. refl;
+      fits = λ e. omega arith;
+      verdict = d .over o .0;
+      samples = λ e. omega (arith, later-samples (bodyAt dump (placeOf Between) false) (wordsOf (drop (r .at) dump)) 0 refl, ap length (d .over o .1));
+    }
+
+-- Two faults joined are none only where neither is one.
+module _ (p : Fault) (n line : ℕ) where
+  clear-by : (a z b : Bool) → eqb n 0 ≡ a → eqb (p .number) 0 ≡ z → joinedBy a z b p n line .number ≡ 0 → (p .number ≡ 0) × (n ≡ 0)
+  clear-by true z b e f g = (g, eqb-true n 0 e)
+  clear-by false true b e f g = absurd (eqb-false n 0 e g)
+  clear-by false false true e f g = absurd (eqb-false (p .number) 0 f g)
+  clear-by false false false e f g = absurd (eqb-false n 0 e g)
+
+  pub joined-clear : joinedOf p n line .number ≡ 0 → (p .number ≡ 0) × (n ≡ 0)
+  unfolding joinedOf
+  joined-clear g = clear-by (eqb n 0) (eqb (p .number) 0) _ refl refl g
+
+-- It stands no further than the two.
+pub first-small : (p : Fault) (n line most : ℕ) (first : Fault) → first ≡ joinedOf p n line → p .line ≤ most → line ≤ most
+    → first .line ≤ most
+first-small p n line most first e h k = rw e (joined-small p n line most h k)
+
+-- As long as there is no fault, the samples are fewer than the characters and the time together.
+pub counts-small : (dump : List ℕ) (at line : ℕ) (fault : Fault) (mode : Mode) (heard : Heard) → Kept dump at line fault mode heard
+    → length dump ≤ 9223372036854775808 → (n on : ℕ) (first : Fault) → first ≡ joinedOf fault n on
+    → (heard .lines ≤ 9223372036854775808) × (eqb (first .number) 0 ≡ true → heard .samples ≤ mostCounted)
+counts-small dump at line fault mode heard k m n on first e =
+    let i = k .inside in
+    let l = k .lines in
+    let t = k .early in
+    let clear : first .number ≡ 0 → fault .number ≡ 0 = λ z. joined-clear fault n on (ap (λ (f : Fault). f .number) (sym e) ∙ z) .0 in
+    (omega arith, λ z. omega (arith, k .fits (clear (eqb-true (first .number) 0 z))))
+
+-- The reply by the first fault and the samples is the dump's.
+count-free : (line n x y : ℕ) (b : Bool) → eqb n 0 ≡ b → (n ≡ 0 → x ≡ y)
+    → verdictBy (dumped.noteBy b line n []) x ≡ verdictBy (dumped.noteBy b line n []) y
+count-free line n x y true e h = ap (λ (z : ℕ). verdictBy [] z) (h (eqb-true n 0 e))
+count-free line n x y false e h = refl
+
+pub judged : (dump : List ℕ) (fault : Fault) (samples : ℕ) (r : Reply)
+    → ((count : ℕ) → verdictBy (faultsOf dump) count ≡ verdictBy (note (fault .line) (fault .number) []) count)
+    → (fault .number ≡ 0 → samples ≡ length (samplesOf dump))
+    → meant r ≡ verdictBy (note (fault .line) (fault .number) []) samples → Judges dump r
+unfolding dumpVerdict note
+judged dump fault samples r v h e =
+    record {
+      reply =
+          e ∙ count-free (fault .line) (fault .number) samples (length (samplesOf dump)) (eqb (fault .number) 0) refl h
+          ∙ sym (v (length (samplesOf dump)));
+    }
+
+-- Where the definitions do not end, the dump has no sample.
+module _ (dump table : List ℕ) (h : Heading) (d : Defines dump h table) (o : h .over ≡ false) (r : Reply) where
+  pub judged-wrong : h .wrong ≡ true → meant r ≡ verdictBy (note (h .fault .line) (h .fault .number) []) 0 → Judges dump r
+  judged-wrong w e = judged dump (h .fault) 0 r (d .wrong o w .0) (λ z. sym (ap length (d .wrong o w .1))) e
+
+  pub judged-short : (last : ℕ) (fault : Fault) → h .wrong ≡ false → last ≡ lastLine dump → fault ≡ joinedOf (h .fault) 20 last
+      → meant r ≡ verdictBy (note (fault .line) (fault .number) []) 0 → Judges dump r
+  judged-short last fault w l g e =
+      judged dump fault 0 r
+      (λ n. d .short o w .0 n ∙ joined-verdict (h .fault) 20 (lastLine dump) [] n
+      ∙ ap (λ (f : Fault). verdictBy (note (f .line) (f .number) []) n) (sym (g ∙ ap (joinedOf (h .fault) 20) l)))
+      (λ z. sym (ap length (d .short o w .1))) e

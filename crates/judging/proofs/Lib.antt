@@ -1,0 +1,3 @@
+pub mod CountLaws
+pub mod Kept
+pub mod Turns

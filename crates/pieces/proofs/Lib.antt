@@ -1,0 +1,4 @@
+pub mod Turns
+pub mod Filling
+pub mod Reading
+pub mod PieceLaws

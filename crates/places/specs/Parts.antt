@@ -1,0 +1,18 @@
+-- What gathering promises, in named parts.
+use Prim.Native.Nat.{ℕ, suc, _+_}
+use mathlib.Core.Bool.{Bool, true, _&&_}
+use mathlib.Core.List.{List, [], _∷_, _++_}
+use mathlib.Core.Path.{_≡_}
+use lib.Dec.{leb, ltb}
+use lib.ListN.{length, take, drop}
+use Rattle.places.specs.Places.{placesFrom, laidOver}
+
+-- The places of one piece added to those before.
+pub record Gathers (levels answers : List ℕ) (first : ℕ) (row : List ℕ) (before r : ℕ) (row′ : List ℕ) : Type 0 where
+  pub count : r ≡ before + length (placesFrom first levels answers)
+  pub said : row′ ≡ take before row ++ laidOver (placesFrom first levels answers) (drop before row)
+
+-- Numbers that ascend, each once: from a lowest on, each above the one before, and all below an end (2026-03, the report).
+abbrev pub ascending : ℕ → ℕ → List ℕ → Bool
+ascending low end [] = true
+ascending low end (k ∷ ks) = leb low k && (ltb k end && ascending (suc k) end ks)

@@ -1,0 +1,43 @@
+// The places where a dump and the twin disagree, gathered from the rows of one piece.
+ghost use mathlib.Core.Path.{_≡_};
+ghost use Prim.Native.Nat.{_≤_, _+_};
+ghost use lib.ListN.{length};
+ghost use Rattle.places.specs.Places.{disagrees};
+ghost use Rattle.places.specs.Parts.{Gathers};
+
+// SCL high, SDA high in the dump, and the twin pulls it low.
+pub fn disagree(level: u8, answer: u8) -> bool
+    ensures { λ r. ⌜ r ≡ disagrees level answer ⌝ }
+{
+    if level % 4 == 3 {
+        return answer % 2 == 0;
+    }
+    false
+}
+
+// Adds the places of a piece to those found before, as far as the row goes, and answers how many there are in all.
+pub fn gather(
+    levels: &[u8],
+    answers: &[u8],
+    first: usize,
+    places: &mut [u64],
+    before: usize,
+) -> usize
+    requires { ⌜ length (now answers) ≡ length (now levels) ⌝ }
+    requires { ⌜ first + length (now levels) ≤ 18446744073709551615 ⌝ }
+    requires { ⌜ before ≤ first ⌝ }
+    ensures { λ r. ⌜ Gathers (now (levels .entry)) (now (answers .entry)) first (now (places .entry)) before r (now (places .exit)) ⌝ }
+{
+    let mut found = before;
+    let mut i = 0;
+    while i < levels.len() {
+        if disagree(levels[i], answers[i]) {
+            if found < places.len() {
+                places[found] = (first + i) as u64;
+            }
+            found += 1;
+        }
+        i += 1;
+    }
+    found
+}

@@ -1,0 +1,78 @@
+-- Laws of a piece that is told: its rows are those of its samples. Assumes nothing.
+use Prim.Native.Nat.{ℕ, _+_, _*_, _≤_, _<_}
+use mathlib.Core.List.{List}
+use mathlib.Core.Path.{_≡_, sym, _∙_}
+use native.Mathlib.Omega.{arith}
+use lib.ListN.{length, take, drop, length-take, length-drop}
+use lib.Seq.{take-at, length-take-le}
+use Rattle.dumps.specs.Samples.{Sample, elapsedOf, levelsOf}
+use Rattle.sample.specs.Run.{answersOf}
+use Rattle.pieces.specs.Marks.{leftOf}
+use Rattle.places.specs.Places.{placesFrom}
+use Rattle.texts.specs.Laying.{Starts}
+use Rattle.listing.specs.Listing.{placesText}
+use Rattle.disagreements.specs.declared.Stand.{Stand}
+use Rattle.disagreements.specs.declared.Played.{Played}
+use Rattle.disagreements.specs.Promises.{partOf, Stands, Plays}
+use Rattle.disagreements.proofs.Piecewise.{levels-length, said-length}
+use Rattle.replaying.specs.declared.Told.{Told}
+use Rattle.replaying.specs.Promises.{Tells}
+
+module _ (dump : List ℕ) (s : Stand) (array levels answers : List ℕ) (r : Played) (array′ levels′ answers′ : List ℕ)
+    (g : Stands dump s array) (h : length levels ≡ 4096) (w : Plays dump s array levels answers r array′ levels′ answers′) where
+  piece : List Sample
+  piece = take (r .count) (leftOf dump (s .mark))
+
+  -- A piece has no more samples than are left, and than there is room for.
+  pub count-left : r .count ≤ length (leftOf dump (s .mark))
+  count-left = omega (arith, w .count)
+
+  pub count-room : r .count ≤ 4096
+  count-room = omega (arith, w .count)
+
+  -- The place of its last sample is a number.
+  pub count-numbered : s .next + r .count ≤ 18446744073709551615
+  count-numbered = omega (arith, g .numbered, count-left)
+
+  -- Its rows are alike, and its lines fit their room.
+  pub lines-fit : (room : ℕ) → length levels′ ≡ 4096 → length answers′ ≡ 4096 → room ≡ 86016
+      → (length (take (r .count) answers′) ≡ length (take (r .count) levels′))
+      × ((s .next + length (take (r .count) levels′) ≤ 18446744073709551615)
+      × (21 * length (take (r .count) levels′) ≤ room))
+  lines-fit room l a o =
+      let m : r .count ≤ 4096 = count-room in
+      let n : length (take (r .count) levels′) ≡ r .count = length-take-le (r .count) levels′ (omega arith) in
+      let k : length (take (r .count) answers′) ≡ r .count = length-take-le (r .count) answers′ (omega arith) in
+      (k ∙ sym n, (omega (arith, count-numbered), omega arith))
+
+  piece-length : length piece ≡ r .count
+  unfolding piece
+  piece-length = length-take (r .count) (leftOf dump (s .mark)) ∙ omega (arith, count-left)
+
+  levels-taken : take (r .count) levels′ ≡ levelsOf piece
+  unfolding piece
+  levels-taken = rw (w .bytes) (take-at (levelsOf piece) (drop (r .count) levels) (r .count) (levels-length piece ∙ piece-length))
+
+  answers-taken : take (r .count) answers′ ≡ answersOf (elapsedOf piece) (levelsOf piece) (partOf s array)
+  unfolding piece
+  answers-taken = rw (w .said) (take-at _ (drop (r .count) answers) (r .count) (said-length piece (partOf s array) ∙ piece-length))
+
+  pub piece-told : (out out′ : List ℕ) (n : ℕ)
+      → Starts (placesText (placesFrom (s .next) (take (r .count) levels′) (take (r .count) answers′))) out n out′
+      → Tells dump s array out (record { count = r .count; length = n; stand = r .stand }) array′ out′
+  unfolding piece
+  piece-told out out′ n t =
+      record {
+        count = rw h at (w .count);
+        text = rw (levels-taken, answers-taken) at t;
+        part = w .part;
+        left = w .left;
+        next = w .next;
+        stands = w .stands;
+      }
+
+-- Behind a piece that is not empty fewer samples are left.
+pub told-less : (dump : List ℕ) (s : Stand) (array out : List ℕ) (r : Told) (array′ out′ : List ℕ) → Tells dump s array out r array′ out′
+    → (r .count ≡ 0 → ⊥) → length (leftOf dump (r .stand .mark)) < length (leftOf dump (s .mark))
+told-less dump s array out r array′ out′ w n =
+    rw (w .left, length-drop (r .count) (leftOf dump (s .mark))) (omega (arith, w .count))

@@ -1,0 +1,82 @@
+// The wanted wires, and the marks of a code.
+use tokens::same;
+ghost use mathlib.Core.Path.{_≡_};
+ghost use Prim.Native.Nat.{_<_, _≤_};
+ghost use lib.Dec.{eqb};
+ghost use mathlib.Core.Bool.{Bool};
+ghost use Rattle.ground.specs.Cases.{odd};
+ghost use Rattle.wires.specs.Wires.{wireOf, bitBy, laid, marked, hasWire};
+
+pub const ALL: u8 = 15;
+
+pub const DECLARED: u8 = 16;
+
+const SCL: u8 = 1;
+
+const SDA: u8 = 2;
+
+const WP: u8 = 4;
+
+const VCC: u8 = 8;
+
+// The mark of the wanted wire that has a name; 0 where none has it.
+pub fn wire_of(name: &[u8]) -> u8
+    ensures { λ r. ⌜ r ≡ wireOf (now (name .entry)) ⌝ }
+    ensures { λ r. ⌜ r ≤ 8 ⌝ }
+{
+    if same(name, b"SCL") {
+        return SCL;
+    }
+    if same(name, b"SDA") {
+        return SDA;
+    }
+    if same(name, b"WP") {
+        return WP;
+    }
+    if same(name, b"VCC") {
+        return VCC;
+    }
+    0
+}
+
+// A bit: the value, 0 or 1, if the lowest of the marks is set, else the lowest bit as it was.
+fn bit(marks: u8, value: u8, old: u8) -> u8
+    requires { ⌜ value ≤ 1 ⌝ }
+    ensures { λ r. ⌜ r ≡ bitBy (odd marks) value old ⌝ }
+    ensures { λ r. ⌜ r ≤ 1 ⌝ }
+{
+    if marks % 2 == 1 {
+        return value;
+    }
+    old % 2
+}
+
+// A level byte with a value, 0 or 1, laid over the bits that the marks name.
+pub fn lay(value: u8, marks: u8, old: u8) -> u8
+    requires { ⌜ value ≤ 1 ⌝ }
+    ensures { λ r. ⌜ r ≡ laid value marks old ⌝ }
+    ensures { λ r. ⌜ r ≤ 15 ⌝ }
+{
+    bit(marks, value, old)
+        + 2 * bit(marks / 2, value, old / 2)
+        + 4 * bit(marks / 4, value, old / 4)
+        + 8 * bit(marks / 8, value, old / 8)
+}
+
+// The marks of a code that one more wire is declared with.
+pub fn mark(marks: u8, wire: u8) -> u8
+    ensures { λ r. ⌜ r ≡ marked marks wire ⌝ }
+    ensures { λ r. ⌜ r ≤ 31 ⌝ }
+{
+    DECLARED + lay(1, wire, marks)
+}
+
+// Whether a wire is wanted and is among those of a mask.
+pub fn has_wire(mask: u8, wire: u8) -> bool
+    ensures { λ r. ⌜ r ≡ hasWire mask wire ⌝ }
+{
+    if wire == 0 {
+        return false;
+    }
+    mask / wire % 2 == 1
+}
