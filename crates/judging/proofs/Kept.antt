@@ -1,4 +1,4 @@
--- What is kept while a dump is judged token after token, at the start and at the end. Assumes nothing.
+-- Laws of what is kept while a dump is judged token after token, at the start and at the end. Assumes nothing.
 use Prim.Native.Nat.{ℕ, _+_, _-_, _≤_}
 use mathlib.Core.Bool.{Bool, true, false, not}
 use mathlib.Core.List.{List, []}
@@ -25,27 +25,9 @@ use Rattle.changes.specs.declared.Mode.the-variants.{Between}
 use Rattle.changes.specs.Parts.{placeOf}
 use Rattle.judging.specs.declared.Heard.{Heard}
 use Rattle.judging.specs.Promises.{Judges}
-use Rattle.judging.specs.Parts.{heardOf, mostCounted, laterOf}
+use Rattle.judging.specs.Parts.{mostCounted}
+use Rattle.judging.specs.Kept.{readingAt, Kept}
 use Rattle.judging.proofs.CountLaws.{later-samples}
-
--- The reading behind the definitions, as far as it was heard.
-abbrev pub readingAt : List ℕ → Mode → Heard → Reading
-readingAt dump mode heard = bodyAt dump (placeOf mode) (ltb 0 (heard .lines))
-
--- What is kept from token to token: the first fault so far and those of what is left give the dump's verdict, and as long as there is none,
--- the samples so far and those of what is left are the dump's.
-pub record Kept (dump : List ℕ) (at line : ℕ) (fault : Fault) (mode : Mode) (heard : Heard) : Type 0 where
-  pub inside : at ≤ length dump
-  pub small : line ≤ at
-  pub faulty : fault .line ≤ length dump
-  pub early : heard .time ≤ highestTime
-  pub lines : heard .lines ≤ at
-  pub unbegun : heard .lines ≡ 0 → heard .time ≡ 0
-  pub fits : fault .number ≡ 0 → heard .samples ≤ at + heard .time
-  pub verdict : (count : ℕ) → verdictBy (faultsOf dump) count
-      ≡ verdictBy (note (fault .line) (fault .number) (faultsFrom (readingAt dump mode heard) (heardOf heard) (tokensFrom line (drop at dump)) (lastLine dump))) count
-  pub samples : fault .number ≡ 0
-      → heard .samples + laterOf (readingAt dump mode heard) (wordsOf (drop at dump)) (heard .time) ≡ length (samplesOf dump)
 
 -- Where the definitions are over nothing was heard.
 pub kept-start : (dump table : List ℕ) (r : Heading) → Defines dump r table → r .over ≡ true

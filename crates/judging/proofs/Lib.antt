@@ -1,3 +1,4 @@
 pub mod CountLaws
 pub mod Kept
 pub mod Turns
+pub mod PlainLaws

@@ -35,7 +35,8 @@ use Rattle.judging.specs.declared.Heard.{Heard}
 use Rattle.judging.specs.Promises.{Judges}
 use Rattle.judging.specs.Parts.{heardOf, gapBy, takenBy, laterBy, laterOf}
 use Rattle.sections.specs.declared.Stage.the-variants.{Body}
-use Rattle.judging.proofs.Kept.{readingAt, Kept, joined-clear, judged}
+use Rattle.judging.specs.Kept.{readingAt, Kept}
+use Rattle.judging.proofs.Kept.{joined-clear, judged}
 
 -- A time line without a fault is above the one before, so the samples stay fewer than the characters read and the time together.
 on-time : (late lacking : Bool) → timeFault late lacking ≡ 0 → late ≡ false

@@ -14,11 +14,16 @@ ghost use mathlib.Core.Path.{_≡_};
 ghost use mathlib.Core.Bool.{true};
 ghost use mathlib.Core.List.{[]};
 ghost use Prim.Native.Nat.{_≤_};
+ghost use lib.ListN.{length};
 ghost use Rattle.ground.specs.Verdict.{meant};
+ghost use Rattle.tokens.specs.Tokens.{lastLine};
+ghost use Rattle.dumps.specs.Defined.{varsOf};
 ghost use Rattle.dumps.specs.Faults.{note, verdictBy};
-ghost use Rattle.headings.specs.Parts.{Defines};
+ghost use Rattle.headings.specs.Parts.{Defines, Tabled, joinedOf};
+ghost use Rattle.changes.specs.declared.Mode.the-variants.{Between};
 ghost use Rattle.judging.specs.Promises.{Judges};
 ghost use Rattle.judging.specs.Parts.{mostCounted, takenBy};
+ghost use Rattle.judging.specs.Kept.{Kept, KeptOn, noFault};
 
 // The time lines and values so far: how many time lines, the latest time, the wires that have a value, and the samples.
 struct Heard {
@@ -26,6 +31,16 @@ struct Heard {
     time: u64,
     given: u8,
     samples: usize,
+}
+
+// Half of the character `0`, and of `1`.
+const ZERO_OR_ONE: u8 = 0x18;
+
+// Where plain tokens end: the place, its line, and what was heard up to there.
+struct Plain {
+    at: usize,
+    line: usize,
+    heard: Heard,
 }
 
 // The reply by the first fault.
@@ -39,6 +54,112 @@ fn reply_of(fault: Fault, samples: usize) -> Reply
     Reply::Refused {
         number: fault.number,
         place: fault.line + 1,
+    }
+}
+
+// The first of a fault and one at the end of the dump, whose line is looked for only then.
+fn join_end(dump: &[u8], fault: Fault, number: u8) -> Fault
+    requires { ⌜ fault .line ≤ length (now dump) ⌝ }
+    ensures { λ r. ⌜ r ≡ joinedOf fault number (lastLine (now (dump .entry))) ⌝ }
+    ensures { λ r. ⌜ r .line ≤ length (now (dump .entry)) ⌝ }
+{
+    if number == 0 {
+        return fault;
+    }
+    faults::join(fault, number, tokens::last_line(dump))
+}
+
+// Where plain tokens end, by the numbers.
+fn plain_at(at: usize, line: usize, lines: usize, time: u64, given: u8, samples: usize) -> Plain
+    ensures { λ r. ⌜ r ≡ record { at = at; line = line; heard = record { lines = lines; time = time; given = given; samples = samples } } ⌝ }
+{
+    Plain {
+        at,
+        line,
+        heard: Heard {
+            lines,
+            time,
+            given,
+            samples,
+        },
+    }
+}
+
+// Passes plain tokens while all wires have values and there is no fault: values of 0 and 1, and times above the one before that make one
+// sample. Whatever else comes is left.
+fn pass_plain(dump: &[u8], table: &[u8], from: usize, on: usize, heard: Heard) -> Plain
+    requires { ⌜ Tabled (varsOf (now dump)) (now table) ⌝ }
+    requires { ⌜ Kept (now dump) «from» on noFault Between heard ⌝ }
+    requires { ⌜ heard .given ≡ 15 ⌝ }
+    requires { ⌜ 2 ≤ heard .lines ⌝ }
+    ensures { λ r. ⌜ KeptOn (now (dump .entry)) «from» noFault Between r ⌝ }
+{
+    let mut at = from;
+    let mut line = on;
+    let mut lines = heard.lines;
+    let mut time = heard.time;
+    let mut samples = heard.samples;
+    loop {
+        if dump.len() - at < glances::FAR {
+            return plain_at(at, line, lines, time, heard.given, samples);
+        }
+        let past = glances::past_blank(dump, at, line);
+        let begins = past.at;
+        let first = dump[begins];
+        if first / 2 == ZERO_OR_ONE {
+            if glances::marks_at(dump, table, begins) == 0 {
+                return plain_at(at, line, lines, time, heard.given, samples);
+            }
+            at = begins + 2;
+            line = past.line;
+        } else {
+            if first != glances::HASH {
+                return plain_at(at, line, lines, time, heard.given, samples);
+            }
+            let seen = glances::time_at(dump, begins);
+            let now = seen / 16;
+            if now <= time {
+                return plain_at(at, line, lines, time, heard.given, samples);
+            }
+            if now - time > gaps::MOST_ELAPSED {
+                return plain_at(at, line, lines, time, heard.given, samples);
+            }
+            at = begins + (seen % 16) as usize;
+            line = past.line;
+            lines += 1;
+            time = now;
+            samples += 1;
+        }
+    }
+}
+
+// Passes plain tokens where they can be passed.
+fn pass(
+    dump: &[u8],
+    table: &[u8],
+    at: usize,
+    line: usize,
+    fault: Fault,
+    mode: Mode,
+    heard: Heard,
+) -> Plain
+    requires { ⌜ Tabled (varsOf (now dump)) (now table) ⌝ }
+    requires { ⌜ Kept (now dump) at line fault mode heard ⌝ }
+    ensures { λ r. ⌜ KeptOn (now (dump .entry)) at fault mode r ⌝ }
+{
+    match mode {
+        Mode::Between => {
+            if fault.number == 0 {
+                if heard.given == marks::ALL {
+                    if heard.lines >= 2 {
+                        return pass_plain(dump, table, at, line, heard);
+                    }
+                }
+            }
+            Plain { at, line, heard }
+        }
+        Mode::Dumped => Plain { at, line, heard },
+        Mode::Skipped => Plain { at, line, heard },
     }
 }
 
@@ -59,11 +180,12 @@ fn judge_body(dump: &[u8], table: &[u8], heading: Heading) -> Reply
         samples: 0,
     };
     loop {
-        let found = tokens::next(dump, at, line);
+        let plain = pass(dump, table, at, line, fault, mode, heard);
+        heard = plain.heard;
+        let found = tokens::next(dump, plain.at, plain.line);
         let Found::Word { from, to, line: on } = found else {
             let number = ends::at_end(mode, heard.lines, heard.given);
-            fault = faults::join(fault, number, tokens::last_line(dump));
-            return reply_of(fault, heard.samples);
+            return reply_of(join_end(dump, fault, number), heard.samples);
         };
         let change = changes::change_of(dump, table, mode, heard.lines > 0, &dump[from..to]);
         at = to;

@@ -1,9 +1,8 @@
 -- Laws of reading on behind the definitions: what is left from a place on gives the same. Assumes nothing.
-use Prim.Native.Nat.{ℕ, zero, suc, _-_, _≤_, min}
+use Prim.Native.Nat.{ℕ, _-_, _≤_}
 use mathlib.Core.Bool.{Bool, true, false, true≢false}
 use mathlib.Core.List.{List, [], _∷_}
 use mathlib.Core.Path.{_≡_, refl, sym, _∙_}
-use native.Mathlib.Nat.{zero-min, suc-min-suc, min-zero, min-le-right}
 use native.Mathlib.Omega.{arith}
 use lib.ListN.{length, take, drop}
 use Rattle.tokens.specs.Tokens.{wordsOf, tokensFrom}
@@ -35,20 +34,9 @@ pub record Moving (dump : List ℕ) (start level at on : ℕ) (mode : Mode) (lev
       ≡ momentsFrom (bodyAt dump (placeOf mode) true) (wordsOf (drop at dump)) time levels
   pub low : level ≤ 15 → levels ≤ 15
 
--- A place past the end is the end.
-drop-min : (n : ℕ) (xs : List ℕ) → drop (min n (length xs)) xs ≡ drop n xs
-drop-min zero xs = rw (zero-min (length xs))
-drop-min (suc n) [] = rw (min-zero (suc n))
-drop-min (suc n) (x ∷ xs) = rw (suc-min-suc n (length xs)) (drop-min n xs)
-
-pub moving-first : (dump : List ℕ) (start level at : ℕ) → at ≡ min start (length dump) → Moving dump start level at 0 Between level
-moving-first dump start level at e =
-    record {
-      inside = rw e (min-le-right start (length dump));
-      small = omega arith;
-      moments = λ time. rw (e, drop-min start dump);
-      low = λ h. h;
-    }
+-- At the start nothing was read.
+pub moving-first : (dump : List ℕ) (start level : ℕ) → start ≤ length dump → Moving dump start level start 0 Between level
+moving-first dump start level h = record { inside = h; small = omega arith; moments = λ time. refl; low = λ h. h }
 
 -- One token more.
 module _ (dump : List ℕ) (start level at on : ℕ) (mode : Mode) (levels : ℕ) (m : Moving dump start level at on mode levels)

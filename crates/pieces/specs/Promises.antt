@@ -12,6 +12,7 @@ use Rattle.dumps.specs.Samples.{Moment, momentsFrom, samplesFrom, samplesOf, el
 use Rattle.pieces.specs.declared.Mark.{Mark}
 use Rattle.pieces.specs.declared.Filled.{Filled}
 use Rattle.pieces.specs.declared.Moved.{Moved}
+use Rattle.pieces.specs.declared.quick.Taken.{Taken}
 use Rattle.pieces.specs.Marks.{leftOf}
 
 -- The mark at which a dump begins has all its samples left.
@@ -51,4 +52,15 @@ pub record Moves (dump : List ℕ) (from level : ℕ) (r : Moved) : Type 0 where
   pub moments : (time : ℕ) → momentsFrom (bodyAt dump Between true) (wordsOf (drop from dump)) time level
       ≡ record { time = time; level = r .level }
       ∷ laterBy (r .over) (momentsFrom (bodyAt dump Between true) (wordsOf (drop (r .at) dump)) (r .time) (r .level))
+  pub low : level ≤ 15 → r .level ≤ 15
+
+-- The values of a moment as far as they were read: what is left gives the same moments.
+abbrev pub takenBy : List ℕ → ℕ → Taken → Bool → List Moment
+takenBy dump time r true =
+    record { time = time; level = r .level } ∷ momentsFrom (bodyAt dump Between true) (wordsOf (drop (r .at) dump)) (r .time) (r .level)
+takenBy dump time r false = momentsFrom (bodyAt dump Between true) (wordsOf (drop (r .at) dump)) time (r .level)
+
+pub record Takes (dump : List ℕ) (from level : ℕ) (r : Taken) : Type 0 where
+  pub inside : r .at ≤ length dump
+  pub moments : (time : ℕ) → momentsFrom (bodyAt dump Between true) (wordsOf (drop from dump)) time level ≡ takenBy dump time r (r .closed)
   pub low : level ≤ 15 → r .level ≤ 15

@@ -1,4 +1,6 @@
 // The samples of a dump, piece after piece: rows of times and level bytes as a replay takes them.
+mod quick;
+
 use changes::Change;
 use changes::Mode;
 use tokens::Found;
@@ -129,7 +131,25 @@ fn take_values(dump: &[u8], table: &[u8], from: usize, level: u8) -> Moved
     requires { ⌜ Tabled (varsOf (now dump)) (now table) ⌝ }
     ensures { λ r. ⌜ Moves (now (dump .entry)) «from» level r ⌝ }
 {
-    let mut at = lesser(from, dump.len());
+    let taken = quick::take_plain(dump, table, lesser(from, dump.len()), level);
+    if taken.closed {
+        return Moved {
+            over: false,
+            at: taken.at,
+            time: taken.time,
+            level: taken.level,
+        };
+    }
+    take_rest(dump, table, taken.at, taken.level)
+}
+
+// The same, token after token.
+fn take_rest(dump: &[u8], table: &[u8], from: usize, level: u8) -> Moved
+    requires { ⌜ Tabled (varsOf (now dump)) (now table) ⌝ }
+    requires { ⌜ «from» ≤ length (now dump) ⌝ }
+    ensures { λ r. ⌜ Moves (now (dump .entry)) «from» level r ⌝ }
+{
+    let mut at = from;
     let mut on = 0;
     let mut mode = Mode::Between;
     let mut levels = level;

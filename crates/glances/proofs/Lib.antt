@@ -1,0 +1,2 @@
+pub mod GlanceLaws
+pub mod Seen

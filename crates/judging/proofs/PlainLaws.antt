@@ -1,0 +1,169 @@
+-- Laws of passing plain tokens: what a value of 0 or 1 and a time that makes one sample leave of what is kept. Assumes nothing.
+use Prim.Native.Nat.{ℕ, _+_, _-_, _/_, _%_, _≤_, _<_}
+use mathlib.Core.Bool.{Bool, true, false, not, _&&_}
+use mathlib.Core.List.{List}
+use mathlib.Core.Path.{_≡_, refl, sym, _∙_}
+use native.Mathlib.Omega.{arith}
+use lib.Dec.{eqb, ltb, leb}
+use lib.ListN.{length, take, drop}
+use borrow.Author.Tests.{lt-ltb, lt-leb, eq-eqb, ne-eqb}
+use Rattle.ground.specs.Cases.{odd}
+use Rattle.sections.specs.Sections.{times, puts}
+use Rattle.wires.specs.Wires.{bitBy, laid, allWires}
+use Rattle.wires.specs.Values.{unfit}
+use Rattle.dumps.specs.Reading.{saysOf}
+use Rattle.dumps.specs.Samples.{repeatsOf}
+use Rattle.dumps.specs.Faults.{faultIf, timeFault, note}
+use Rattle.headings.specs.declared.faults.Fault.{Fault}
+use Rattle.headings.specs.Parts.{joinedOf}
+use Rattle.changes.specs.declared.Mode.{Mode}
+use Rattle.changes.specs.declared.Mode.the-variants.{Between}
+use Rattle.changes.specs.declared.Change.the-variants.{Time, Value}
+use Rattle.changes.specs.Parts.{changeMeant}
+use Rattle.glances.specs.declared.Past.{Past}
+use Rattle.glances.specs.Parts.{Sees, SeesTime, Skims}
+use Rattle.glances.proofs.Seen.{seen-time, seen-further}
+use Rattle.judging.specs.declared.Heard.{Heard}
+use Rattle.judging.specs.declared.Plain.{Plain}
+use Rattle.judging.specs.Parts.{mostCounted, takenBy}
+use Rattle.judging.specs.Kept.{Kept, KeptOn, noFault}
+use Rattle.judging.proofs.Turns.{turn-value, turn-time}
+
+means-value : (c marks : ℕ) → changeMeant (Value c marks) ≡ puts c marks
+unfolding changeMeant
+means-value c marks = refl
+
+means-time : (t : ℕ) → changeMeant (Time t) ≡ times t
+unfolding changeMeant
+means-time t = refl
+
+-- No fault joins none.
+pub joined-zero : (p : Fault) (n line : ℕ) → n ≡ 0 → p ≡ joinedOf p n line
+unfolding joinedOf
+joined-zero p n line e = rw e
+
+joined-none : (p : Fault) (line : ℕ) → p ≡ joinedOf p 0 line
+unfolding joinedOf
+joined-none p line = refl
+
+-- Every wire takes a 0 and a 1.
+plain-fits : (c marks : ℕ) → c / 2 ≡ 0x18 → 0 ≡ faultIf (unfit c marks) 23
+unfolding unfit
+plain-fits c marks h =
+    rw (ne-eqb c 0x78 (λ e. absurd (omega arith)), ne-eqb c 0x58 (λ e. absurd (omega arith)), ne-eqb c 0x7A (λ e. absurd (omega arith)), ne-eqb c 0x5A (λ e. absurd (omega arith)))
+
+-- A value for any wires leaves all given.
+bit-given : (b : Bool) (old : ℕ) → old % 2 ≡ 1 → bitBy b 1 old ≡ 1
+bit-given true old h = refl
+bit-given false old h = h
+
+laid-given : (marks given : ℕ) → given ≡ 15 → given ≡ laid 1 marks given
+unfolding laid
+laid-given marks given g =
+    rw (g, bit-given (odd marks) 15 refl, bit-given (odd (marks / 2)) (15 / 2) refl, bit-given (odd (marks / 4)) (15 / 4) refl, bit-given (odd (marks / 8)) (15 / 8) refl)
+
+-- What is kept while plain tokens are passed, all wires having values, two time lines having come and no fault.
+pub record Passing (dump : List ℕ) (from given at line lines time samples : ℕ) : Type 0 where
+  pub further : from ≤ at
+  pub two : 2 ≤ lines
+  pub kept : Kept dump at line noFault Between (record { lines = lines; time = time; given = given; samples = samples })
+
+-- One plain token more.
+module _ (dump : List ℕ) (from given at line lines time samples : ℕ) (p : Passing dump from given at line lines time samples) where
+  -- Another line or sample fits.
+  pub passing-small : length dump ≤ 9223372036854775808 → (lines ≤ 9223372036854775808) × (samples ≤ mostCounted)
+  passing-small m =
+      let k = p .kept in
+      let i = k .inside in
+      let l = k .lines in
+      let t = k .early in
+      (omega arith, omega (arith, k .fits refl))
+
+  abbrev heard : Heard
+  heard = record { lines = lines; time = time; given = given; samples = samples }
+
+  pub passed : (r : Plain) → r ≡ record { at = at; line = line; heard = heard } → KeptOn dump from noFault Between r
+  passed r e = rw e (record { from = p .further; kept = p .kept })
+
+  module _ (to on : ℕ) where
+    pub passing-value : (c marks : ℕ) → Sees dump at line to on (puts c marks) → c / 2 ≡ 0x18 → given ≡ 15
+        → Passing dump from given to on lines time samples
+    passing-value c marks s h g =
+        let t = p .two in
+        let f = p .further in
+        let l = seen-further dump at line to on s in
+        let b : ltb 0 lines ≡ true = lt-ltb 0 lines (omega arith) in
+        record {
+          further = omega arith;
+          two = t;
+          kept =
+              turn-value dump at line noFault Between heard (p .kept) (s .from) to on (s .word) (Value c marks) c marks
+              (means-value c marks ∙ sym (rw b (s .said))) refl 0 given noFault (plain-fits c marks h) (joined-none noFault on) (laid-given marks given g);
+        }
+
+    late-none : (t : ℕ) → time < t
+        → 0 ≡ timeFault (ltb 0 lines && leb t time) (eqb lines 1 && not (eqb given allWires))
+    late-none t h =
+        let two = p .two in
+        rw (lt-ltb 0 lines (omega arith), lt-leb t time h, ne-eqb lines 1 (λ e. absurd (omega arith)))
+
+    taken-plain : (t : ℕ) → t - time ≤ 100000
+        → record { lines = lines + 1; time = t; given = given; samples = samples + 1 } ≡ takenBy (eqb (noFault .number) 0) heard t
+    taken-plain t h =
+        let two = p .two in
+        let r : repeatsOf (t - time) ≡ 0 = omega arith in
+        rw (lt-ltb 0 lines (omega arith), r)
+
+    passing-seen : (t : ℕ) → Sees dump at line to on (times t) → time < t → t - time ≤ 100000
+        → Passing dump from given to on (lines + 1) t (samples + 1)
+    passing-seen t s h d =
+        let e = p .two in
+        let f = p .further in
+        let l = seen-further dump at line to on s in
+        let b : ltb 0 lines ≡ true = lt-ltb 0 lines (omega arith) in
+        record {
+          further = omega arith;
+          two = omega arith;
+          kept =
+              turn-time dump at line noFault Between heard (p .kept) (s .from) to on (s .word) (Time t) t
+              (means-time t ∙ sym (rw b (s .said))) refl 0 noFault _ (late-none t h) (joined-none noFault on) (taken-plain t d);
+        }
+
+  -- A time and its token's length as they are seen.
+  module _ (past : Past) (r : ℕ) (k : Skims dump at line past) (m : SeesTime dump (past .at) r) (above : time < r / 16) where
+    sees : Sees dump at line (past .at + r % 16) (past .line) (times (r / 16))
+    sees = seen-time dump at line past k r m (λ (e : r ≡ 0). omega arith)
+
+    pub passing-further : at < past .at + r % 16
+    passing-further = seen-further dump at line (past .at + r % 16) (past .line) sees
+
+    pub passing-time : r / 16 - time ≤ 100000
+        → Passing dump from given (past .at + r % 16) (past .line) (lines + 1) (r / 16) (samples + 1)
+    passing-time d = passing-seen (past .at + r % 16) (past .line) (r / 16) sees above d
+
+-- Where there is no fault it does not matter where it would stand.
+pub kept-other : (dump : List ℕ) (at line : ℕ) (f g : Fault) (mode : Mode) (heard : Heard) → Kept dump at line f mode heard
+    → f .number ≡ 0 → g .number ≡ 0 → g .line ≤ length dump → Kept dump at line g mode heard
+unfolding note
+kept-other dump at line f g mode heard k y z l =
+    record {
+      inside = k .inside;
+      small = k .small;
+      faulty = l;
+      early = k .early;
+      lines = k .lines;
+      unbegun = k .unbegun;
+      fits = λ e. k .fits y;
+      verdict = λ count. rw z (rw y at (k .verdict count));
+      samples = λ e. k .samples y;
+    }
+
+pub kept-plain : (dump : List ℕ) (at line : ℕ) (fault : Fault) (mode : Mode) (heard : Heard) → Kept dump at line fault mode heard
+    → fault .number ≡ 0 → mode ≡ Between → Kept dump at line noFault Between heard
+kept-plain dump at line fault mode heard k z e = kept-other dump at line fault noFault Between heard (rw e at k) z refl (omega arith)
+
+-- So plain tokens are passed behind any number of tokens without a fault.
+pub passed-on : (dump : List ℕ) (at line : ℕ) (fault : Fault) (mode : Mode) (heard : Heard) (r : Plain) → Kept dump at line fault mode heard
+    → fault .number ≡ 0 → mode ≡ Between → KeptOn dump at noFault Between r → KeptOn dump at fault mode r
+passed-on dump at line fault mode heard r k z e p =
+    rw e (record { from = p .from; kept = kept-other dump (r .at) (r .line) noFault fault Between (r .heard) (p .kept) refl z (k .faulty) })
