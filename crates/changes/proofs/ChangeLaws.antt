@@ -19,7 +19,7 @@ use Rattle.sections.proofs.SectionLaws.{stepOf, step-from}
 use Rattle.wires.specs.Wires.{marksOf}
 use Rattle.wires.specs.Times.{highestTime, timeOf}
 use Rattle.wires.specs.Values.{isValue}
-use Rattle.dumps.specs.Reading.{Reading, hash, timeSays, valueSays, bodyBy, dumpedBy, dumpedSays, saysAt, saysOf, after, afterBy}
+use Rattle.dumps.specs.Reading.{Known, hash, timeSays, valueSays, bodyBy, dumpedBy, dumpedSays, saysAt, saysOf, after, afterBy}
 use Rattle.dumps.specs.Defined.{varsOf, bodyAt}
 use Rattle.changes.specs.declared.Mode.{Mode}
 use Rattle.changes.specs.declared.Mode.the-variants.{Between, Dumped, Skipped}
@@ -85,12 +85,12 @@ pub tail-whole : (w : List ℕ) → take (length w - 1) (drop 1 w) ≡ drop 1 w
 tail-whole w = take-all (length w - 1) (drop 1 w) (simp length-drop (omega arith))
 
 -- What a token says behind the definitions, by its first character.
-between-by : (r : Reading) (w : List ℕ) → 0 < length w → r .spot .stage ≡ Body
+between-by : (r : Known) (w : List ℕ) → 0 < length w → r .spot .stage ≡ Body
     → saysAt place.Between r w ≡ bodyBy (eqb (getD w 0 0) hash) (isValue (getD w 0 0)) r (getD w 0 0) (drop 1 w)
 between-by r [] h e = absurd (omega arith)
 between-by r (c ∷ cs) h e = rw e
 
-dumped-by : (r : Reading) (w : List ℕ) → 0 < length w
+dumped-by : (r : Known) (w : List ℕ) → 0 < length w
     → dumpedSays r w ≡ dumpedBy (isValue (getD w 0 0)) r (getD w 0 0) (drop 1 w)
 dumped-by r [] h = absurd (omega arith)
 dumped-by r (c ∷ cs) h = refl
@@ -178,13 +178,13 @@ end-timely : (b : Bool) → Timely (goBy b (record { stage = Body; place = place
 end-timely true = tt
 end-timely false = tt
 
-body-timely : (hashed value : Bool) (r : Reading) (c : ℕ) (cs : List ℕ) → Timely (bodyBy hashed value r c cs)
+body-timely : (hashed value : Bool) (r : Known) (c : ℕ) (cs : List ℕ) → Timely (bodyBy hashed value r c cs)
 unfolding sectionSays
 body-timely true value r c cs = time-timely (timeOf cs) (leb (timeOf cs) highestTime) refl
 body-timely false true r c cs = value-timely (r .begun && ltb 0 (marksOf (r .vars) cs)) c (marksOf (r .vars) cs)
 body-timely false false r c cs = opens-timely (keywordOf (c ∷ cs))
 
-dumped-timely : (value : Bool) (r : Reading) (c : ℕ) (cs : List ℕ) → Timely (dumpedBy value r c cs)
+dumped-timely : (value : Bool) (r : Known) (c : ℕ) (cs : List ℕ) → Timely (dumpedBy value r c cs)
 unfolding sectionSays
 dumped-timely true r c cs = value-timely (r .begun && ltb 0 (marksOf (r .vars) cs)) c (marksOf (r .vars) cs)
 dumped-timely false r c cs = end-timely (isEnd (c ∷ cs))

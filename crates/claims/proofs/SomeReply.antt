@@ -24,7 +24,7 @@ use Rattle.transfers.specs.Transfers.{entriesOf}
 use Rattle.transfers.specs.declared.Listed.{Listed}
 use Rattle.transfers.specs.Promises.{listedBy, laidBy}
 use Rattle.image_claims.proofs.Door.{replyOf, reply-means}
-use Rattle.dumps.specs.Samples.{samplesOf}
+use Rattle.dumps.specs.Samples.{samplesIn}
 use Rattle.dumps.specs.Faults.{dumpVerdict}
 use Rattle.places.specs.Places.{partAfterAll, placesOf, openVerdict, reportBy, arrayBy, laidOver}
 use Rattle.claims.specs.SomeReply.{SomeReply}
@@ -95,14 +95,14 @@ some-reply =
       report = λ part select stored dump array row.
           let v = openVerdict part select stored dump array in
           let ps = placesOf part select stored dump array in (
-            (replyOf (reportBy v (length ps)), arrayBy v (partAfterAll (samplesOf dump) (atPower part select stored array) .array) array, arrayBy v (laidOver ps row) row),
+            (replyOf (reportBy v (length ps)), arrayBy v (partAfterAll (samplesIn dump) (atPower part select stored array) .array) array, arrayBy v (laidOver ps row) row),
             record { reply = reply-means (reportBy v (length ps)); kept = refl; said = refl },
           );
       door-replay-dump = λ part select stored dump array row numbers.
           let v = openVerdict part select stored dump array in
           let ps = placesOf part select stored dump array in
           let f = fits numbers in (
-            (answerBy f, leftOr f (arrayBy v (partAfterAll (samplesOf dump) (atPower part select stored array) .array) array) array, leftOr f (arrayBy v (laidOver ps row) row) row, leftOr f (told (reportBy v (length ps))) numbers),
+            (answerBy f, leftOr f (arrayBy v (partAfterAll (samplesIn dump) (atPower part select stored array) .array) array) array, leftOr f (arrayBy v (laidOver ps row) row) row, leftOr f (told (reportBy v (length ps))) numbers),
             record { answer = refl; reply = refl; kept = refl; said = refl },
           );
     }

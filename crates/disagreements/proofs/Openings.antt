@@ -18,11 +18,11 @@ use Rattle.refusals.specs.Refusals.{powerOf}
 use Rattle.power.specs.Power.{poweredUp, powerState, atPower}
 use Rattle.ranges.specs.Fit.{Fit}
 use Rattle.onward.proofs.Onward.{power-fit}
-use Rattle.dumps.specs.Samples.{samplesOf}
+use Rattle.dumps.specs.Samples.{samplesIn}
 use Rattle.dumps.specs.Faults.{Fault, verdictBy, faultsOf, dumpVerdict}
 use Rattle.judging.specs.Promises.{Judges}
 use Rattle.pieces.specs.declared.Mark.{Mark}
-use Rattle.pieces.specs.Marks.{leftOf}
+use Rattle.pieces.specs.Marks.{leftFrom}
 use Rattle.pieces.specs.Promises.{Begins}
 use Rattle.places.specs.Places.{placesIn, placesOf, openBy, openVerdict}
 use Rattle.disagreements.specs.declared.Opened.{Opened}
@@ -33,9 +33,9 @@ counted-by : (fs : List Fault) (count n : ℕ) → verdictBy fs count ≡ accept
 counted-by [] count n e = cc
 counted-by (f ∷ fs) count n e = absurd (apart _ _ n e)
 
-counted : (dump : List ℕ) (n : ℕ) → dumpVerdict dump ≡ accepted n → length (samplesOf dump) ≡ n
+counted : (dump : List ℕ) (n : ℕ) → dumpVerdict dump ≡ accepted n → length (samplesIn dump) ≡ n
 unfolding dumpVerdict
-counted dump n e = counted-by (faultsOf dump) (length (samplesOf dump)) n e
+counted dump n e = counted-by (faultsOf dump) (length (samplesIn dump)) n e
 
 module _ (part select stored : ℕ) (dump array : List ℕ) where
   -- The verdict by the order of the tests.
@@ -103,7 +103,7 @@ module _ (part select stored : ℕ) (dump array : List ℕ) where
         unfolding meant
         opens-sound k q t =
             let v : dumpVerdict dump ≡ accepted k = is-accepted judged (dumpVerdict dump) k (d .reply) q in
-            let l : length (leftOf dump m) ≡ k = ap length (b .left) ∙ counted dump k v in
+            let l : length (leftFrom dump m) ≡ k = ap length (b .left) ∙ counted dump k v in
             let o : w ≡ poweredUp part select stored = s ∙ (rw powers) in
             let fit = power-fit part select stored array n powers (rw g at h) in
             record {
@@ -142,8 +142,8 @@ module _ (part select stored : ℕ) (dump array : List ℕ) where
         let p : partOf (r .stand) array ≡ atPower part select stored array =
         λ i. record { state = s i; array = array }
         in
-        let i : placesIn (r .stand .next) (leftOf dump (r .stand .mark)) (partOf (r .stand) array)
-        ≡ placesIn 0 (samplesOf dump) (atPower part select stored array) =
+        let i : placesIn (r .stand .next) (leftFrom dump (r .stand .mark)) (partOf (r .stand) array)
+        ≡ placesIn 0 (samplesIn dump) (atPower part select stored array) =
         rw (o .next, o .left, p)
         in
         record {

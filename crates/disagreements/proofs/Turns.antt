@@ -15,7 +15,7 @@ use Rattle.twin.specs.Promises.{Replays}
 use Rattle.dumps.specs.Samples.{Sample, elapsedOf, levelsOf}
 use Rattle.pieces.specs.declared.Mark.{Mark}
 use Rattle.pieces.specs.declared.Filled.{Filled}
-use Rattle.pieces.specs.Marks.{leftOf}
+use Rattle.pieces.specs.Marks.{leftFrom}
 use Rattle.pieces.specs.Promises.{Fills}
 use Rattle.pieces.proofs.PieceLaws.{piece-taken, piece-times, piece-bytes}
 use Rattle.places.specs.Places.{partAfterAll}
@@ -28,19 +28,19 @@ use Rattle.disagreements.proofs.Piecewise.{elapsed-length, levels-lengt
 -- A piece filled into rows.
 module _ (dump : List ℕ) (m : Mark) (elapsed levels : List ℕ) (r : Filled) (elapsed′ levels′ : List ℕ)
     (f : Fills dump m elapsed levels r elapsed′ levels′) where
-  piece-length : length (take (r .count) (leftOf dump m)) ≡ r .count
-  piece-length = let c = f .count in length-take-le (r .count) (leftOf dump m) (omega arith)
+  piece-length : length (take (r .count) (leftFrom dump m)) ≡ r .count
+  piece-length = let c = f .count in length-take-le (r .count) (leftFrom dump m) (omega arith)
 
   -- The rows hold it.
   pub times-fit : r .count ≡ length (take (r .count) elapsed′)
   times-fit =
       let e = piece-times dump m elapsed levels r elapsed′ levels′ f in
-      sym (ap length e ∙ elapsed-length (take (r .count) (leftOf dump m)) ∙ piece-length)
+      sym (ap length e ∙ elapsed-length (take (r .count) (leftFrom dump m)) ∙ piece-length)
 
   pub bytes-fit : r .count ≡ length (take (r .count) levels′)
   bytes-fit =
       let e = piece-bytes dump m elapsed levels r elapsed′ levels′ f in
-      sym (ap length e ∙ levels-length (take (r .count) (leftOf dump m)) ∙ piece-length)
+      sym (ap length e ∙ levels-length (take (r .count) (leftFrom dump m)) ∙ piece-length)
 
   pub answers-fit : (answers : List ℕ) → length answers ≡ length levels → r .count ≡ length (take (r .count) answers)
   answers-fit answers b = let c = f .count in sym (length-take-le (r .count) answers (omega arith))
@@ -60,12 +60,12 @@ module _ (dump : List ℕ) (s : Stand) (elapsed levels : List ℕ) (r : Filled) 
       (row′ ++ drop (r .count) answers)
   plays array answers g a b m q array′ row′ x =
       let p : Part = partOf s array in
-      let ss : List Sample = take (r .count) (leftOf dump (s .mark)) in
+      let ss : List Sample = take (r .count) (leftFrom dump (s .mark)) in
       let y : Replays (s .state) (elapsedOf ss) (levelsOf ss) array (take (r .count) answers) q array′ row′ =
       rw (piece-times dump (s .mark) elapsed levels r elapsed′ levels′ f, piece-bytes dump (s .mark) elapsed levels r elapsed′ levels′ f) at x
       in
       let n = piece-length dump (s .mark) elapsed levels r elapsed′ levels′ f in
-      let c : r .count ≡ min (length (leftOf dump (s .mark))) (length levels) = let c = f .count in omega arith in
+      let c : r .count ≡ min (length (leftFrom dump (s .mark))) (length levels) = let c = f .count in omega arith in
       let t = answers-fit dump (s .mark) elapsed levels r elapsed′ levels′ f answers b in
       let j : judgedOf (s .state) (elapsedOf ss) (levelsOf ss) array (take (r .count) answers) ≡ accepted (length (levelsOf ss)) =
       piece-judged ss p (take (r .count) answers) (g .fit) (omega arith) (omega arith) (λ v. piece-taken dump (s .mark) (r .count) v (g .low))
@@ -76,7 +76,7 @@ module _ (dump : List ℕ) (s : Stand) (elapsed levels : List ℕ) (r : Filled) 
       let part : _≡_ {A = Part} (record { state = q .state; array = array′ }) (partAfterAll ss p) =
       λ i. record { state = state i; array = kept i }
       in
-      let d : length (leftOf dump (r .mark)) ≡ length (leftOf dump (s .mark)) - r .count = ap length (f .left) ∙ length-drop (r .count) _ in
+      let d : length (leftFrom dump (r .mark)) ≡ length (leftFrom dump (s .mark)) - r .count = ap length (f .left) ∙ length-drop (r .count) _ in
       record {
         count = c;
         part = part;
@@ -95,33 +95,33 @@ module _ (dump : List ℕ) (s : Stand) (elapsed levels : List ℕ) (r : Filled) 
 -- A piece that was played: the fronts of the rows are its level bytes and its answers.
 module _ (dump : List ℕ) (s : Stand) (array levels answers : List ℕ) (r : Played) (array′ levels′ answers′ : List ℕ)
     (x : Plays dump s array levels answers r array′ levels′ answers′) where
-  played-length : length (take (r .count) (leftOf dump (s .mark))) ≡ r .count
-  played-length = let c = x .count in length-take-le (r .count) (leftOf dump (s .mark)) (omega arith)
+  played-length : length (take (r .count) (leftFrom dump (s .mark))) ≡ r .count
+  played-length = let c = x .count in length-take-le (r .count) (leftFrom dump (s .mark)) (omega arith)
 
-  played-bytes : take (r .count) levels′ ≡ levelsOf (take (r .count) (leftOf dump (s .mark)))
+  played-bytes : take (r .count) levels′ ≡ levelsOf (take (r .count) (leftFrom dump (s .mark)))
   played-bytes =
       ap (take (r .count)) (x .bytes)
-      ∙ take-at _ _ (r .count) (levels-length (take (r .count) (leftOf dump (s .mark))) ∙ played-length)
+      ∙ take-at _ _ (r .count) (levels-length (take (r .count) (leftFrom dump (s .mark))) ∙ played-length)
 
   played-said : take (r .count) answers′
-      ≡ answersOf (elapsedOf (take (r .count) (leftOf dump (s .mark)))) (levelsOf (take (r .count) (leftOf dump (s .mark)))) (partOf s array)
+      ≡ answersOf (elapsedOf (take (r .count) (leftFrom dump (s .mark)))) (levelsOf (take (r .count) (leftFrom dump (s .mark)))) (partOf s array)
   played-said =
       ap (take (r .count)) (x .said)
-      ∙ take-at _ _ (r .count) (said-length (take (r .count) (leftOf dump (s .mark))) (partOf s array) ∙ played-length)
+      ∙ take-at _ _ (r .count) (said-length (take (r .count) (leftFrom dump (s .mark))) (partOf s array) ∙ played-length)
 
   pub front-bytes : r .count ≡ length (take (r .count) levels′)
-  front-bytes = sym (ap length played-bytes ∙ levels-length (take (r .count) (leftOf dump (s .mark))) ∙ played-length)
+  front-bytes = sym (ap length played-bytes ∙ levels-length (take (r .count) (leftFrom dump (s .mark))) ∙ played-length)
 
   pub front-said : r .count ≡ length (take (r .count) answers′)
   front-said =
-      sym (ap length played-said ∙ said-length (take (r .count) (leftOf dump (s .mark))) (partOf s array) ∙ played-length)
+      sym (ap length played-said ∙ said-length (take (r .count) (leftFrom dump (s .mark))) (partOf s array) ∙ played-length)
 
   -- As long as there are samples, fewer are left behind each piece.
-  pub left-less : (r .count ≡ 0 → ⊥) → length (leftOf dump (r .stand .mark)) < length (leftOf dump (s .mark))
+  pub left-less : (r .count ≡ 0 → ⊥) → length (leftFrom dump (r .stand .mark)) < length (leftFrom dump (s .mark))
   left-less h =
       let c = x .count in
-      let d : length (leftOf dump (r .stand .mark)) ≡ length (leftOf dump (s .mark)) - r .count =
-      ap length (x .left) ∙ length-drop (r .count) (leftOf dump (s .mark))
+      let d : length (leftFrom dump (r .stand .mark)) ≡ length (leftFrom dump (s .mark)) - r .count =
+      ap length (x .left) ∙ length-drop (r .count) (leftFrom dump (s .mark))
       in
       omega arith
 
@@ -133,7 +133,7 @@ pub record Turning (dump : List ℕ) (s₀ : Stand) (array₀ row₀ elapsed₀ 
   pub times : length elapsed ≡ length elapsed₀
   pub bytes : length levels ≡ length levels₀
   pub said : length answers ≡ length answers₀
-  pub playing : Playing (s₀ .next) (leftOf dump (s₀ .mark)) (partOf s₀ array₀) row₀ (s .next) (leftOf dump (s .mark)) (partOf s array) row found
+  pub playing : Playing (s₀ .next) (leftFrom dump (s₀ .mark)) (partOf s₀ array₀) row₀ (s .next) (leftFrom dump (s .mark)) (partOf s array) row found
 
 no-samples : (ss : List Sample) → length ss ≡ 0 → ss ≡ []
 no-samples [] h = refl
@@ -181,6 +181,6 @@ module _ (dump : List ℕ) (s₀ : Stand) (array₀ row₀ elapsed₀ levels₀ 
     pub turn-ends : 0 < length levels → r .count ≡ 0 → PlaysOn dump s₀ array₀ row₀ found array′ row
     turn-ends h e =
         let c = x .count in
-        let z = playing-ends _ _ _ _ _ _ _ _ _ (t .playing) (no-samples (leftOf dump (s .mark)) (omega arith)) in
-        let q : partAfterAll (take (r .count) (leftOf dump (s .mark))) (partOf s array) ≡ partOf s array = rw e in
+        let z = playing-ends _ _ _ _ _ _ _ _ _ (t .playing) (no-samples (leftFrom dump (s .mark)) (omega arith)) in
+        let q : partAfterAll (take (r .count) (leftFrom dump (s .mark))) (partOf s array) ≡ partOf s array = rw e in
         record { count = z .0; said = z .1; kept = ap (λ (p : Part). p .array) (x .part ∙ q ∙ z .2) }

@@ -9,8 +9,8 @@ use Rattle.refusals.specs.Refusals.{powerOf}
 use Rattle.sample.specs.Run.{Part, answersOf}
 use Rattle.power.specs.Power.{atPower, powerState}
 use Rattle.ranges.specs.Fit.{Fit}
-use Rattle.dumps.specs.Samples.{Sample, samplesOf, elapsedOf, levelsOf}
-use Rattle.pieces.specs.Marks.{leftOf}
+use Rattle.dumps.specs.Samples.{Sample, samplesIn, elapsedOf, levelsOf}
+use Rattle.pieces.specs.Marks.{leftFrom}
 use Rattle.disagreements.specs.declared.Stand.{Stand}
 use Rattle.disagreements.specs.declared.Opened.{Opened}
 use Rattle.disagreements.specs.declared.Played.{Played}
@@ -24,37 +24,37 @@ partOf s array = record { state = s .state; array = array }
 pub record Stands (dump : List ℕ) (s : Stand) (array : List ℕ) : Type 0 where
   pub fit : Fit (partOf s array)
   pub low : s .mark .level ≤ 15
-  pub numbered : s .next + length (leftOf dump (s .mark)) < 18446744073709551616
+  pub numbered : s .next + length (leftFrom dump (s .mark)) < 18446744073709551616
 
 -- Begin: the verdict, and the part at power-up before the first sample (2026-03, refusals; Refusal numbers, 1 to 3, 5).
 pub record Opens (part select stored : ℕ) (dump array : List ℕ) (r : Opened) : Type 0 where
   pub reply : meant (r .reply) ≡ openVerdict part select stored dump array
   pub state : r .stand .state ≡ powerState (powerOf part select stored) part select stored
-  pub left : leftOf dump (r .stand .mark) ≡ samplesOf dump
+  pub left : leftFrom dump (r .stand .mark) ≡ samplesIn dump
   pub next : r .stand .next ≡ 0
   pub stands : (n : ℕ) → openVerdict part select stored dump array ≡ accepted n → Stands dump (r .stand) array
 
 -- One piece played: the samples that the rows hold, their level bytes and answers, and the stand behind them.
 pub record Plays (dump : List ℕ) (s : Stand) (array levels answers : List ℕ) (r : Played) (array′ levels′ answers′ : List ℕ) : Type 0 where
-  pub count : r .count ≡ min (length (leftOf dump (s .mark))) (length levels)
-  pub part : partOf (r .stand) array′ ≡ partAfterAll (take (r .count) (leftOf dump (s .mark))) (partOf s array)
-  pub bytes : levels′ ≡ levelsOf (take (r .count) (leftOf dump (s .mark))) ++ drop (r .count) levels
+  pub count : r .count ≡ min (length (leftFrom dump (s .mark))) (length levels)
+  pub part : partOf (r .stand) array′ ≡ partAfterAll (take (r .count) (leftFrom dump (s .mark))) (partOf s array)
+  pub bytes : levels′ ≡ levelsOf (take (r .count) (leftFrom dump (s .mark))) ++ drop (r .count) levels
   pub said : answers′
-      ≡ answersOf (elapsedOf (take (r .count) (leftOf dump (s .mark)))) (levelsOf (take (r .count) (leftOf dump (s .mark)))) (partOf s array)
+      ≡ answersOf (elapsedOf (take (r .count) (leftFrom dump (s .mark)))) (levelsOf (take (r .count) (leftFrom dump (s .mark)))) (partOf s array)
       ++ drop (r .count) answers
-  pub left : leftOf dump (r .stand .mark) ≡ drop (r .count) (leftOf dump (s .mark))
+  pub left : leftFrom dump (r .stand .mark) ≡ drop (r .count) (leftFrom dump (s .mark))
   pub next : r .stand .next ≡ s .next + r .count
   pub stands : Stands dump (r .stand) array′
 
 -- All that is left played: how many places disagree, the first of them in the row, and the array.
 pub record PlaysOn (dump : List ℕ) (s : Stand) (array row : List ℕ) (r : ℕ) (array′ row′ : List ℕ) : Type 0 where
-  pub count : r ≡ length (placesIn (s .next) (leftOf dump (s .mark)) (partOf s array))
-  pub said : row′ ≡ laidOver (placesIn (s .next) (leftOf dump (s .mark)) (partOf s array)) row
-  pub kept : array′ ≡ partAfterAll (leftOf dump (s .mark)) (partOf s array) .array
+  pub count : r ≡ length (placesIn (s .next) (leftFrom dump (s .mark)) (partOf s array))
+  pub said : row′ ≡ laidOver (placesIn (s .next) (leftFrom dump (s .mark)) (partOf s array)) row
+  pub kept : array′ ≡ partAfterAll (leftFrom dump (s .mark)) (partOf s array) .array
 
 -- The report of a whole dump: how many places disagree, the first of them in the row, and the array after all samples; refused, nothing has
 -- changed (2026-03, the report and its refusals).
 pub record Reports (part select stored : ℕ) (dump array row : List ℕ) (r : Reply) (array′ row′ : List ℕ) : Type 0 where
   pub reply : meant r ≡ reportBy (openVerdict part select stored dump array) (length (placesOf part select stored dump array))
-  pub kept : array′ ≡ arrayBy (openVerdict part select stored dump array) (partAfterAll (samplesOf dump) (atPower part select stored array) .array) array
+  pub kept : array′ ≡ arrayBy (openVerdict part select stored dump array) (partAfterAll (samplesIn dump) (atPower part select stored array) .array) array
   pub said : row′ ≡ arrayBy (openVerdict part select stored dump array) (laidOver (placesOf part select stored dump array) row) row

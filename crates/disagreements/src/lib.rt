@@ -105,7 +105,7 @@ pub fn play(
     }
 }
 
-// Replays what is left of a dump piece after piece, and answers how many places disagree in all, given how many did before.
+// Replays what is left of a dump piece after piece, and answers how many places disagree.
 fn play_on(
     dump: &[u8],
     from: Stand,

@@ -9,7 +9,7 @@ use Rattle.sample.specs.Run.{partAfter}
 use Rattle.twin.specs.Promises.{rowAfter}
 use Rattle.telling.specs.Told.{told, fits, answerBy, leftOr}
 use Rattle.captures.specs.Once.{captureVerdict}
-use Rattle.dumps.specs.Samples.{samplesOf}
+use Rattle.dumps.specs.Samples.{samplesIn}
 use Rattle.places.specs.Places.{partAfterAll, placesOf, openVerdict, reportBy, arrayBy, laidOver}
 
 -- Power-up and replay in one: array and answer row as the samples leave them; refused, as they were (Refusal numbers, 1 to 10).
@@ -26,6 +26,6 @@ pub record ReplaysDump (part select stored : ℕ) (dump array row numbers : List
   pub reply : numbers′
       ≡ leftOr (fits numbers) (told (reportBy (openVerdict part select stored dump array) (length (placesOf part select stored dump array)))) numbers
   pub kept : array′
-      ≡ leftOr (fits numbers) (arrayBy (openVerdict part select stored dump array) (partAfterAll (samplesOf dump) (atPower part select stored array) .array) array) array
+      ≡ leftOr (fits numbers) (arrayBy (openVerdict part select stored dump array) (partAfterAll (samplesIn dump) (atPower part select stored array) .array) array) array
   pub said : row′
       ≡ leftOr (fits numbers) (arrayBy (openVerdict part select stored dump array) (laidOver (placesOf part select stored dump array) row) row) row

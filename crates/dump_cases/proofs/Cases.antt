@@ -4,18 +4,18 @@ use native.Mathlib.Omega.{arith}
 use Rattle.sections.specs.Spelling.{keywordOf}
 use Rattle.sections.specs.Sections.{sectionSays}
 use Rattle.tokens.specs.Tokens.{wordsOf, lastLine}
-use Rattle.wires.specs.Wires.{wireOf, laid, hasWire}
+use Rattle.wires.specs.Wires.{weightOf, laid, hasWire}
 use Rattle.wires.specs.Times.{timeOf}
 use Rattle.wires.specs.Values.{isValue, levelOf, unfit}
 use Rattle.words.specs.Words.{figureOf, numeral}
 use Rattle.dumps.specs.Reading.{saysOf, afterBy}
-use Rattle.dumps.specs.Samples.{samplesOf}
+use Rattle.dumps.specs.Samples.{samplesIn}
 use Rattle.dumps.specs.Faults.{heardBy, faultBy, endFault, note, first, faultsOf, dumpVerdict}
 use Rattle.dump_cases.specs.Cases.{DumpCases}
 
 -- Everything that a dump means, computed.
 pub dump-cases : DumpCases
-unfolding keywordOf sectionSays wordsOf lastLine wireOf laid hasWire timeOf isValue levelOf unfit figureOf numeral saysOf afterBy samplesOf heardBy faultBy endFault note first faultsOf dumpVerdict
+unfolding keywordOf sectionSays wordsOf lastLine weightOf laid hasWire timeOf isValue levelOf unfit figureOf numeral saysOf afterBy samplesIn heardBy faultBy endFault note first faultsOf dumpVerdict
 dump-cases =
     record {
       gap-100000 = refl;

@@ -11,7 +11,7 @@ use borrow.Author.Tests.{ltb-true, ltb-false, leb-true, leb-false, eqb-true, lt-
 use Rattle.ground.proofs.Tests.{and-split, or-split}
 use Rattle.ground.specs.Verdict.{Verdict, accepted, refused}
 use Rattle.ground.proofs.Verdicts.{apart}
-use Rattle.dumps.specs.Samples.{samplesOf}
+use Rattle.dumps.specs.Samples.{samplesIn}
 use Rattle.dumps.specs.Faults.{Fault, faultsOf, comesFirst, firstBy, first, leastFrom, verdictBy, dumpVerdict}
 use Rattle.dump_cases.specs.Least.{First, LeastFault}
 
@@ -141,10 +141,10 @@ pub least-fault : LeastFault
 unfolding dumpVerdict
 least-fault =
     record {
-      sound = λ dump n e. sound-by (faultsOf dump) (length (samplesOf dump)) n e;
+      sound = λ dump n e. sound-by (faultsOf dump) (length (samplesIn dump)) n e;
       accepts = λ dump e. rw e;
       faulty = λ dump k p e.
-          let w = faulty-by (faultsOf dump) (length (samplesOf dump)) k p e in
+          let w = faulty-by (faultsOf dump) (length (samplesIn dump)) k p e in
           record { fault = w .fault; among = w .among; number = w .number; place = w .place; least = w .least };
-      refuses = λ dump f m. refuses-by (faultsOf dump) (length (samplesOf dump)) f m;
+      refuses = λ dump f m. refuses-by (faultsOf dump) (length (samplesIn dump)) f m;
     }

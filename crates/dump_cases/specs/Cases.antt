@@ -6,7 +6,7 @@ use mathlib.Core.Path.{_≡_}
 use lib.ListN.{replicate}
 use Rattle.codes.specs.Codes.{codesOf}
 use Rattle.ground.specs.Verdict.{Verdict, accepted, refused}
-use Rattle.dumps.specs.Samples.{Sample, samplesOf, repeatsOf, restOf}
+use Rattle.dumps.specs.Samples.{Sample, samplesIn, repeatsOf, restOf}
 use Rattle.dumps.specs.Faults.{dumpVerdict}
 
 -- Definitions of the four wires, on one line, with the codes ! ~ # and $.
@@ -25,9 +25,9 @@ at elapsed level = record { elapsed = elapsed; level = level }
 -- The cases: what samples a dump has, and its verdict.
 pub record DumpCases : Type 0 where
   -- gaps of 100,000, 100,001 and 200,000; the first sample has elapsed 0
-  pub gap-100000 : samplesOf (dumped (codesOf "#7 1! 1~ 0# 1$\n#100007 0!\n")) ≡ at 0 11 ∷ at 100000 10 ∷ []
-  pub gap-100001 : samplesOf (dumped (codesOf "#7 1! 1~ 0# 1$\n#100008 0!\n")) ≡ at 0 11 ∷ at 100000 11 ∷ at 1 10 ∷ []
-  pub gap-200000 : samplesOf (dumped (codesOf "#7 1! 1~ 0# 1$\n#200007 0!\n")) ≡ at 0 11 ∷ at 100000 11 ∷ at 100000 10 ∷ []
+  pub gap-100000 : samplesIn (dumped (codesOf "#7 1! 1~ 0# 1$\n#100007 0!\n")) ≡ at 0 11 ∷ at 100000 10 ∷ []
+  pub gap-100001 : samplesIn (dumped (codesOf "#7 1! 1~ 0# 1$\n#100008 0!\n")) ≡ at 0 11 ∷ at 100000 11 ∷ at 1 10 ∷ []
+  pub gap-200000 : samplesIn (dumped (codesOf "#7 1! 1~ 0# 1$\n#200007 0!\n")) ≡ at 0 11 ∷ at 100000 11 ∷ at 100000 10 ∷ []
   -- the longest gap; and of every gap: its repeats and what they leave make it up, what is left is at most 100,000, and no fewer repeats
   -- would leave that little
   pub longest-gap : (repeatsOf 4294967295 ≡ 42949) × (restOf 4294967295 ≡ 67295)
@@ -35,11 +35,11 @@ pub record DumpCases : Type 0 where
   pub short-rest : (gap : ℕ) → restOf gap ≤ 100000
   pub fewest-repeats : (gap n : ℕ) → gap ≤ n * 100000 + 100000 → repeatsOf gap ≤ n
   -- the last value up to the next time line counts; z on SDA is high
-  pub last-value : samplesOf (dumped (codesOf "#0 1! 0~ 0# 1$ z~\n#1 0! 1! 0!\n")) ≡ at 0 11 ∷ at 1 10 ∷ []
+  pub last-value : samplesIn (dumped (codesOf "#0 1! 0~ 0# 1$ z~\n#1 0! 1! 0!\n")) ≡ at 0 11 ∷ at 1 10 ∷ []
   -- a comment, dumped values inside a time, a wire that is skipped, an alias, and carriage returns
-  pub dumped-values : samplesOf (dumped (codesOf "$comment any $var $end #3\r\n$dumpvars 1!\r\n1~ 0# 1$ $end\r\n#5 $comment #6 $end 0!")) ≡ at 0 11 ∷ at 2 10 ∷ []
+  pub dumped-values : samplesIn (dumped (codesOf "$comment any $var $end #3\r\n$dumpvars 1!\r\n1~ 0# 1$ $end\r\n#5 $comment #6 $end 0!")) ≡ at 0 11 ∷ at 2 10 ∷ []
   pub alias :
-      samplesOf (codesOf "$timescale 1us $end $scope fork b $end $var wire 1 a SCL $end $var wire 1 a VCC $end $var wire 1 long SDA $end $var wire 1 c WP $end $var wire 1 d led $end $upscope $end $enddefinitions $end #0 1a zlong 0c xd #1 0long")
+      samplesIn (codesOf "$timescale 1us $end $scope fork b $end $var wire 1 a SCL $end $var wire 1 a VCC $end $var wire 1 long SDA $end $var wire 1 c WP $end $var wire 1 d led $end $upscope $end $enddefinitions $end #0 1a zlong 0c xd #1 0long")
       ≡ at 0 11 ∷ at 1 9 ∷ []
   -- a text that ends inside a time line, and the highest times
   pub cut-time : dumpVerdict (dumped (codesOf "#0 1! 1~ 0# 1$\n#4294967295\n#")) ≡ refused 20 4

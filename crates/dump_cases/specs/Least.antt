@@ -7,7 +7,7 @@ use mathlib.Core.List.{List, [], List·Memᴰ}
 use mathlib.Core.Path.{_≡_}
 use lib.ListN.{length}
 use Rattle.ground.specs.Verdict.{accepted, refused}
-use Rattle.dumps.specs.Samples.{samplesOf}
+use Rattle.dumps.specs.Samples.{samplesIn}
 use Rattle.dumps.specs.Faults.{Fault, faultsOf, comesFirst, dumpVerdict}
 
 -- A fault of a dump before which none of its faults comes.
@@ -20,7 +20,7 @@ pub record First (dump : List ℕ) (k p : ℕ) : Type 0 where
 
 -- The claim (2026-03, refusals 20 to 23).
 pub record LeastFault : Type 0 where
-  pub sound : (dump : List ℕ) (n : ℕ) → dumpVerdict dump ≡ accepted n → (faultsOf dump ≡ []) × (n ≡ length (samplesOf dump))
-  pub accepts : (dump : List ℕ) → faultsOf dump ≡ [] → dumpVerdict dump ≡ accepted (length (samplesOf dump))
+  pub sound : (dump : List ℕ) (n : ℕ) → dumpVerdict dump ≡ accepted n → (faultsOf dump ≡ []) × (n ≡ length (samplesIn dump))
+  pub accepts : (dump : List ℕ) → faultsOf dump ≡ [] → dumpVerdict dump ≡ accepted (length (samplesIn dump))
   pub faulty : (dump : List ℕ) (k p : ℕ) → dumpVerdict dump ≡ refused k p → First dump k p
   pub refuses : (dump : List ℕ) (f : Fault) → List·Memᴰ f (faultsOf dump) → (k : ℕ) × (p : ℕ) × (dumpVerdict dump ≡ refused k p)

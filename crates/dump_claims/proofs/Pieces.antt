@@ -10,8 +10,8 @@ use Rattle.ground.specs.Verdict.{accepted}
 use Rattle.part.specs.declared.state.State.{State}
 use Rattle.sample.specs.Run.{Part, answersOf}
 use Rattle.power.specs.Power.{atPower}
-use Rattle.dumps.specs.Samples.{Sample, samplesOf, elapsedOf, levelsOf}
-use Rattle.pieces.specs.Marks.{leftOf}
+use Rattle.dumps.specs.Samples.{Sample, samplesIn, elapsedOf, levelsOf}
+use Rattle.pieces.specs.Marks.{leftFrom}
 use Rattle.places.specs.Places.{placesFrom, placesIn, partAfterAll, placesOf, openVerdict}
 use Rattle.places.proofs.PlaceLaws.{places-ascend}
 use Rattle.disagreements.specs.declared.Stand.{Stand}
@@ -51,27 +51,27 @@ cut-part n ss p =
 -- One piece before those that follow it.
 module _ (dump : List ℕ) (s : Stand) (array levels answers : List ℕ) (r : Played) (array′ levels′ answers′ : List ℕ)
     (x : Plays dump s array levels answers r array′ levels′ answers′) where
-  few : r .count ≤ length (leftOf dump (s .mark))
+  few : r .count ≤ length (leftFrom dump (s .mark))
   few = let c = x .count in omega arith
 
   told : placesFrom (s .next) (take (r .count) levels′) (take (r .count) answers′)
-      ≡ placesIn (s .next) (take (r .count) (leftOf dump (s .mark))) (partOf s array)
-  told = rows-tell (s .next) (r .count) (leftOf dump (s .mark)) (partOf s array) levels′ answers′ _ _ few (x .bytes) (x .said)
+      ≡ placesIn (s .next) (take (r .count) (leftFrom dump (s .mark))) (partOf s array)
+  told = rows-tell (s .next) (r .count) (leftFrom dump (s .mark)) (partOf s array) levels′ answers′ _ _ few (x .bytes) (x .said)
 
-  piece-places : (ps : List ℕ) → ps ≡ placesIn (r .stand .next) (leftOf dump (r .stand .mark)) (partOf (r .stand) array′)
+  piece-places : (ps : List ℕ) → ps ≡ placesIn (r .stand .next) (leftFrom dump (r .stand .mark)) (partOf (r .stand) array′)
       → placesFrom (s .next) (take (r .count) levels′) (take (r .count) answers′) ++ ps
-      ≡ placesIn (s .next) (leftOf dump (s .mark)) (partOf s array)
+      ≡ placesIn (s .next) (leftFrom dump (s .mark)) (partOf s array)
   piece-places ps e =
-      rw (told, e, x .next, x .left, x .part) (cut-places (s .next) (r .count) (leftOf dump (s .mark)) (partOf s array) few)
+      rw (told, e, x .next, x .left, x .part) (cut-places (s .next) (r .count) (leftFrom dump (s .mark)) (partOf s array) few)
 
-  piece-part : (q : Part) → q ≡ partAfterAll (leftOf dump (r .stand .mark)) (partOf (r .stand) array′)
-      → q ≡ partAfterAll (leftOf dump (s .mark)) (partOf s array)
-  piece-part q e = e ∙ rw (x .left, x .part) (cut-part (r .count) (leftOf dump (s .mark)) (partOf s array))
+  piece-part : (q : Part) → q ≡ partAfterAll (leftFrom dump (r .stand .mark)) (partOf (r .stand) array′)
+      → q ≡ partAfterAll (leftFrom dump (s .mark)) (partOf s array)
+  piece-part q e = e ∙ rw (x .left, x .part) (cut-part (r .count) (leftFrom dump (s .mark)) (partOf s array))
 
 -- All pieces.
-whole : (dump : List ℕ) (s t : Stand) (array array′ ps : List ℕ) → Chain dump s array ps t array′ → leftOf dump (t .mark) ≡ []
-    → (ps ≡ placesIn (s .next) (leftOf dump (s .mark)) (partOf s array))
-    × (partOf t array′ ≡ partAfterAll (leftOf dump (s .mark)) (partOf s array))
+whole : (dump : List ℕ) (s t : Stand) (array array′ ps : List ℕ) → Chain dump s array ps t array′ → leftFrom dump (t .mark) ≡ []
+    → (ps ≡ placesIn (s .next) (leftFrom dump (s .mark)) (partOf s array))
+    × (partOf t array′ ≡ partAfterAll (leftFrom dump (s .mark)) (partOf s array))
 whole dump s t array array′ ps none h = (rw h, rw h)
 whole dump s t array array″ ps (piece {array′ = array′} {ps = qs} levels answers r levels′ answers′ x c) h =
     let w = whole dump (r .stand) t array′ array″ qs c h in (
@@ -100,7 +100,7 @@ joined-pieces =
           let e = from-power part select stored dump array r n x v in
           (w .0 ∙ rw (x .next, x .left, e), w .1 ∙ rw (x .left, e));
       ascending = λ part select stored dump array.
-          let ss = samplesOf dump in
+          let ss = samplesIn dump in
           let e = places-ascend 0 (levelsOf ss) (answersOf (elapsedOf ss) (levelsOf ss) (atPower part select stored array)) in
           rw (← levels-length ss) (rw (zero-add (length (levelsOf ss))) at e);
     }

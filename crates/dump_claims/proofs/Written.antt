@@ -8,7 +8,7 @@ use lib.Seq.{take-at}
 use Rattle.ground.specs.Verdict.{accepted}
 use Rattle.sample.specs.Run.{Part}
 use Rattle.texts.specs.Laying.{Starts}
-use Rattle.pieces.specs.Marks.{leftOf}
+use Rattle.pieces.specs.Marks.{leftFrom}
 use Rattle.places.specs.Places.{placesIn, partAfterAll, placesOf}
 use Rattle.listing.specs.Listing.{placesText}
 use Rattle.listing.proofs.PlaceLines.{text-append}
@@ -26,10 +26,10 @@ front text out n out′ x = rw (x .shown) (take-at text (drop n out) n (sym (x .
 
 -- One piece before those that follow it.
 piece-text : (dump : List ℕ) (s : Stand) (array out : List ℕ) (r : Told) (array′ out′ text : List ℕ) → Tells dump s array out r array′ out′
-    → text ≡ placesText (placesIn (r .stand .next) (leftOf dump (r .stand .mark)) (partOf (r .stand) array′))
-    → take (r .length) out′ ++ text ≡ placesText (placesIn (s .next) (leftOf dump (s .mark)) (partOf s array))
+    → text ≡ placesText (placesIn (r .stand .next) (leftFrom dump (r .stand .mark)) (partOf (r .stand) array′))
+    → take (r .length) out′ ++ text ≡ placesText (placesIn (s .next) (leftFrom dump (s .mark)) (partOf s array))
 piece-text dump s array out r array′ out′ text x e =
-    let ss = leftOf dump (s .mark) in
+    let ss = leftFrom dump (s .mark) in
     let c = x .count in
     let few : r .count ≤ length ss = omega arith in
     rw (front _ out (r .length) out′ (x .text), e, x .next, x .left, x .part)
@@ -37,8 +37,8 @@ piece-text dump s array out r array′ out′ text x e =
     ∙ ap placesText (cut-places (s .next) (r .count) ss (partOf s array) few))
 
 -- All pieces.
-all-text : (dump : List ℕ) (s t : Stand) (array array′ text : List ℕ) → Telling dump s array text t array′ → leftOf dump (t .mark) ≡ []
-    → text ≡ placesText (placesIn (s .next) (leftOf dump (s .mark)) (partOf s array))
+all-text : (dump : List ℕ) (s t : Stand) (array array′ text : List ℕ) → Telling dump s array text t array′ → leftFrom dump (t .mark) ≡ []
+    → text ≡ placesText (placesIn (s .next) (leftFrom dump (s .mark)) (partOf s array))
 all-text dump s t array array′ text nothing h = rw h
 all-text dump s t array array″ text (more {array′ = array′} {text = rest} out r out′ x c) h =
     piece-text dump s array out r array′ out′ rest x (all-text dump (r .stand) t array′ array″ rest c h)

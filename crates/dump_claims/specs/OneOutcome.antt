@@ -9,7 +9,7 @@ use Rattle.ground.specs.declared.Reply.{Reply}
 use Rattle.judging.specs.Promises.{Judges}
 use Rattle.pieces.specs.declared.Mark.{Mark}
 use Rattle.pieces.specs.declared.Filled.{Filled}
-use Rattle.pieces.specs.Marks.{leftOf}
+use Rattle.pieces.specs.Marks.{leftFrom}
 use Rattle.pieces.specs.Promises.{Begins, Fills}
 use Rattle.disagreements.specs.declared.Opened.{Opened}
 use Rattle.disagreements.specs.Promises.{Opens, Reports}
@@ -26,12 +26,12 @@ pub record OneOutcome : Type 0 where
       → ReplaysDump part select stored dump array row numbers q array₂ row₂ numbers₂
       → (r ≡ q) × (array₁ ≡ array₂) × (row₁ ≡ row₂) × (numbers₁ ≡ numbers₂)
   -- marks: the same samples are left
-  pub first : (dump : List ℕ) (r q : Mark) → Begins dump r → Begins dump q → leftOf dump r ≡ leftOf dump q
+  pub first : (dump : List ℕ) (r q : Mark) → Begins dump r → Begins dump q → leftFrom dump r ≡ leftFrom dump q
   pub fill : (dump : List ℕ) (m n : Mark) (elapsed levels : List ℕ) (r q : Filled) (elapsed₁ levels₁ elapsed₂ levels₂ : List ℕ)
-      → leftOf dump m ≡ leftOf dump n
+      → leftFrom dump m ≡ leftFrom dump n
       → Fills dump m elapsed levels r elapsed₁ levels₁ → Fills dump n elapsed levels q elapsed₂ levels₂
-      → (r .count ≡ q .count) × (elapsed₁ ≡ elapsed₂) × (levels₁ ≡ levels₂) × (leftOf dump (r .mark) ≡ leftOf dump (q .mark))
+      → (r .count ≡ q .count) × (elapsed₁ ≡ elapsed₂) × (levels₁ ≡ levels₂) × (leftFrom dump (r .mark) ≡ leftFrom dump (q .mark))
   pub begin : (part select stored : ℕ) (dump array : List ℕ) (r q : Opened)
       → Opens part select stored dump array r → Opens part select stored dump array q
       → (r .reply ≡ q .reply) × (r .stand .state ≡ q .stand .state) × (r .stand .next ≡ q .stand .next)
-      × (leftOf dump (r .stand .mark) ≡ leftOf dump (q .stand .mark))
+      × (leftFrom dump (r .stand .mark) ≡ leftFrom dump (q .stand .mark))

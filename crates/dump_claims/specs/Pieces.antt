@@ -10,8 +10,8 @@ use mathlib.Core.Path.{_≡_}
 use lib.ListN.{length, take}
 use Rattle.ground.specs.Verdict.{accepted}
 use Rattle.power.specs.Power.{atPower}
-use Rattle.dumps.specs.Samples.{samplesOf}
-use Rattle.pieces.specs.Marks.{leftOf}
+use Rattle.dumps.specs.Samples.{samplesIn}
+use Rattle.pieces.specs.Marks.{leftFrom}
 use Rattle.places.specs.Places.{placesFrom, placesIn, partAfterAll, placesOf, openVerdict}
 use Rattle.places.specs.Parts.{ascending}
 use Rattle.disagreements.specs.declared.Stand.{Stand}
@@ -28,17 +28,17 @@ pub data Chain (dump : List ℕ) : Stand → List ℕ → List ℕ → Stand →
 
 -- The claim (2026-03, piece after piece; the report gives places ascending, each once).
 pub record JoinedPieces : Type 0 where
-  pub whole : (dump : List ℕ) (s t : Stand) (array array′ ps : List ℕ) → Chain dump s array ps t array′ → leftOf dump (t .mark) ≡ []
-      → (ps ≡ placesIn (s .next) (leftOf dump (s .mark)) (partOf s array))
-      × (partOf t array′ ≡ partAfterAll (leftOf dump (s .mark)) (partOf s array))
+  pub whole : (dump : List ℕ) (s t : Stand) (array array′ ps : List ℕ) → Chain dump s array ps t array′ → leftFrom dump (t .mark) ≡ []
+      → (ps ≡ placesIn (s .next) (leftFrom dump (s .mark)) (partOf s array))
+      × (partOf t array′ ≡ partAfterAll (leftFrom dump (s .mark)) (partOf s array))
   -- wherever the cuts fall
   pub cuts : (dump : List ℕ) (s t u : Stand) (array array₁ array₂ ps qs : List ℕ)
-      → Chain dump s array ps t array₁ → leftOf dump (t .mark) ≡ [] → Chain dump s array qs u array₂ → leftOf dump (u .mark) ≡ []
+      → Chain dump s array ps t array₁ → leftFrom dump (t .mark) ≡ [] → Chain dump s array qs u array₂ → leftFrom dump (u .mark) ≡ []
       → (ps ≡ qs) × (partOf t array₁ ≡ partOf u array₂)
   pub from-power-up : (part select stored : ℕ) (dump array : List ℕ) (r : Opened) (t : Stand) (array′ ps : List ℕ) (n : ℕ)
       → Opens part select stored dump array r → openVerdict part select stored dump array ≡ accepted n
-      → Chain dump (r .stand) array ps t array′ → leftOf dump (t .mark) ≡ []
+      → Chain dump (r .stand) array ps t array′ → leftFrom dump (t .mark) ≡ []
       → (ps ≡ placesOf part select stored dump array)
-      × (partOf t array′ ≡ partAfterAll (samplesOf dump) (atPower part select stored array))
+      × (partOf t array′ ≡ partAfterAll (samplesIn dump) (atPower part select stored array))
   pub ascending : (part select stored : ℕ) (dump array : List ℕ)
-      → ascending 0 (length (samplesOf dump)) (placesOf part select stored dump array) ≡ true
+      → ascending 0 (length (samplesIn dump)) (placesOf part select stored dump array) ≡ true

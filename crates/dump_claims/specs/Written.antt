@@ -7,7 +7,7 @@ use mathlib.Core.Path.{_≡_}
 use lib.ListN.{take}
 use Rattle.ground.specs.Verdict.{accepted, refused}
 use Rattle.texts.specs.Refusal.{refusalLine}
-use Rattle.pieces.specs.Marks.{leftOf}
+use Rattle.pieces.specs.Marks.{leftFrom}
 use Rattle.disagreements.specs.declared.Stand.{Stand}
 use Rattle.disagreements.specs.declared.Opened.{Opened}
 use Rattle.replaying.specs.declared.Told.{Told}
@@ -25,7 +25,7 @@ pub data Telling (dump : List ℕ) : Stand → List ℕ → List ℕ → Stand �
 pub record Written : Type 0 where
   pub report : (part select stored : ℕ) (image dump : List ℕ) (r : Opened) (array : List ℕ) (t : Stand) (array′ text : List ℕ) (n : ℕ)
       → Readies part select stored image dump r array → startVerdict part select stored image dump ≡ accepted n
-      → Telling dump (r .stand) array text t array′ → leftOf dump (t .mark) ≡ []
+      → Telling dump (r .stand) array text t array′ → leftFrom dump (t .mark) ≡ []
       → text ≡ replayText part select stored image dump
   pub refusal : (part select stored : ℕ) (image dump : List ℕ) (k p : ℕ) → startVerdict part select stored image dump ≡ refused k p
       → replayText part select stored image dump ≡ refusalLine k p

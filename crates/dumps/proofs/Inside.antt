@@ -14,7 +14,7 @@ use Rattle.tokens.specs.Tokens.{Token, sameWord}
 use Rattle.sections.specs.Spelling.{keywordOf, isEnd, free, isScopeKind, oneWord, microWord, oneMicroWord, wireWord}
 use Rattle.sections.specs.Sections.{Says, moves, codes, names, defines, times, puts, breaks, goBy, sayBy, skipBy, numberBy, opens, sectionSays, isStart, isScaled, isScoped, isClosed, isBody}
 use Rattle.wires.specs.Wires.{Var}
-use Rattle.dumps.specs.Reading.{Reading, saysOf, afterBy, isBetween}
+use Rattle.dumps.specs.Reading.{Known, saysOf, afterBy, isBetween}
 use Rattle.dumps.specs.Defined.{definedFrom, varsOf, bodyAt}
 use Rattle.dumps.specs.Samples.{momentsFrom, samplesBy, samplesFrom}
 use Rattle.dumps.specs.Faults.{Heard, unheard, heardBy, lacks, faultBy, isWrong, endBy, endFault, note, faultsFrom}
@@ -54,7 +54,7 @@ waiting Values code = []
 waiting Wrong code = []
 
 -- A reading inside the definitions: no time line has come.
-abbrev pub heading : Stage → Place → List ℕ → List Var → Reading
+abbrev pub heading : Stage → Place → List ℕ → List Var → Known
 heading stage place code vars = record { spot = record { stage = stage; place = place }; code = waiting place code; vars = vars; begun = false }
 
 -- There a token says what its section says.
@@ -150,7 +150,7 @@ section-fits Values stage code w p d = absurd (true≢false (sym p))
 section-fits Wrong stage code w p d = absurd (true≢false (sym p))
 
 -- The reading behind a token, by what it says.
-abbrev pub behind : Says → Stage → Place → List ℕ → List Var → List ℕ → Reading
+abbrev pub behind : Says → Stage → Place → List ℕ → List Var → List ℕ → Known
 behind (moves spot) stage place code vars w = heading (spot .stage) (spot .place) code vars
 behind codes stage place code vars w = heading stage VarName w vars
 behind names stage place code vars w = heading stage Close code (record { code = code; name = w } ∷ vars)

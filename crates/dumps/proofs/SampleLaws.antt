@@ -13,7 +13,7 @@ use Rattle.sections.specs.Sections.{Says, moves, codes, names, defines, times, 
 use Rattle.wires.specs.Wires.{laid}
 use Rattle.wires.specs.Values.{isZ, levelBy, levelOf}
 use Rattle.wires.proofs.WireLaws.{laid-small}
-use Rattle.dumps.specs.Reading.{Reading, saysOf, afterBy, after}
+use Rattle.dumps.specs.Reading.{Known, saysOf, afterBy, after}
 use Rattle.dumps.specs.Defined.{bodyAt}
 use Rattle.dumps.specs.Samples.{Moment, momentsBy, momentsFrom, Sample, repeatsOf, restOf, gapTo, spread, samplesFrom}
 use Rattle.dumps.proofs.Taken.{samples-token, moments-token}
@@ -53,7 +53,7 @@ module _ (from : ℕ) where
   opened-by (puts c marks) t level rest h = h t (laid (levelOf c) marks level)
   opened-by breaks t level rest h = h t level
 
-  pub opened : (r : Reading) (ws : List (List ℕ)) (t level : ℕ) → Opened t (momentsFrom r ws t level)
+  pub opened : (r : Known) (ws : List (List ℕ)) (t level : ℕ) → Opened t (momentsFrom r ws t level)
   opened r [] t level = record { some = omega arith; gap = refl }
   opened r (w ∷ ws) t level = opened-by (saysOf r w) t level (momentsFrom (after r w) ws) (opened (after r w) ws)
 
@@ -119,7 +119,7 @@ low-by (times t) time level rest h k = (k, h t level k)
 low-by (puts c marks) time level rest h k = h time (laid (levelOf c) marks level) (laid-small (levelOf c) marks level (level-small c))
 low-by breaks time level rest h k = h time level k
 
-pub moments-low : (r : Reading) (ws : List (List ℕ)) (time level : ℕ) → level ≤ mostLevel → Low (momentsFrom r ws time level)
+pub moments-low : (r : Known) (ws : List (List ℕ)) (time level : ℕ) → level ≤ mostLevel → Low (momentsFrom r ws time level)
 moments-low r [] time level k = (k, tt)
 moments-low r (w ∷ ws) time level k = low-by (saysOf r w) time level (momentsFrom (after r w) ws) (moments-low (after r w) ws) k
 

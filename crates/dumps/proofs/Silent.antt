@@ -8,13 +8,13 @@ use Rattle.sections.specs.declared.Place.the-variants.{Wrong}
 use Rattle.sections.specs.Sections.{sectionSays, isBody}
 use Rattle.tokens.specs.Tokens.{Token}
 use Rattle.wires.specs.Wires.{Var}
-use Rattle.dumps.specs.Reading.{Reading, saysOf, afterBy}
+use Rattle.dumps.specs.Reading.{Known, saysOf, afterBy}
 use Rattle.dumps.specs.Defined.{definedBy, definedFrom}
 use Rattle.dumps.specs.Samples.{momentsFrom, samplesFrom}
 use Rattle.dumps.specs.Faults.{Heard, heardBy, faultBy, endFault, note, faultsFrom}
 
 -- A reading behind a malformed token.
-abbrev pub wrongAt : Stage → List ℕ → List Var → Bool → Reading
+abbrev pub wrongAt : Stage → List ℕ → List Var → Bool → Known
 wrongAt stage code vars begun = record { spot = record { stage = stage; place = Wrong }; code = code; vars = vars; begun = begun }
 
 module _ (stage : Stage) (code : List ℕ) (vars : List Var) (begun : Bool) where
@@ -34,7 +34,7 @@ module _ (stage : Stage) (code : List ℕ) (vars : List Var) (begun : Bool) wher
   silent-moments [] time level = refl
   silent-moments (w ∷ ws) time level = silent-moments ws time level
 
-  silent-by : (b : Bool) (rest : Reading) → rest .vars ≡ vars → definedBy b (wrongAt stage code vars begun) rest .vars ≡ vars
+  silent-by : (b : Bool) (rest : Known) → rest .vars ≡ vars → definedBy b (wrongAt stage code vars begun) rest .vars ≡ vars
   silent-by true rest e = refl
   silent-by false rest e = e
 

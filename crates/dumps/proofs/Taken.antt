@@ -5,7 +5,7 @@ use mathlib.Core.List.{List, [], _∷_}
 use mathlib.Core.Path.{_≡_, refl}
 use Rattle.tokens.specs.Tokens.{Token}
 use Rattle.sections.specs.Sections.{Says}
-use Rattle.dumps.specs.Reading.{Reading, saysOf, afterBy}
+use Rattle.dumps.specs.Reading.{Known, saysOf, afterBy}
 use Rattle.dumps.specs.Defined.{isDefined, definedFrom}
 use Rattle.dumps.specs.Samples.{momentsBy, momentsFrom, samplesBy, samplesFrom}
 use Rattle.dumps.specs.Faults.{Fault, Heard, heardBy, faultBy, note, faultsFrom}
@@ -16,12 +16,12 @@ unfolding note
 note-none line fs = refl
 
 -- Its fault stands before those of the tokens behind it.
-pub faults-token : (r : Reading) (h : Heard) (t : Token) (ts : List Token) (last : ℕ) {s : Says} → saysOf r (t .word) ≡ s
+pub faults-token : (r : Known) (h : Heard) (t : Token) (ts : List Token) (last : ℕ) {s : Says} → saysOf r (t .word) ≡ s
     → faultsFrom r h (t ∷ ts) last
     ≡ note (t .line) (faultBy s r h (t .word)) (faultsFrom (afterBy s r (t .word)) (heardBy s h) ts last)
 faults-token r h t ts last e = rw e
 
-module _ (r : Reading) (w : List ℕ) (ws : List (List ℕ)) where
+module _ (r : Known) (w : List ℕ) (ws : List (List ℕ)) where
   module _ {s : Says} (e : saysOf r w ≡ s) where
     -- Its samples and moments are those of the tokens behind it, unless it is a time or a value.
     pub samples-token : samplesFrom r (w ∷ ws) ≡ samplesBy s (momentsFrom (afterBy s r w) ws) (samplesFrom (afterBy s r w) ws)
@@ -36,6 +36,6 @@ module _ (r : Reading) (w : List ℕ) (ws : List (List ℕ)) where
     defined-token d = rw (d, e)
 
 -- Where they are over they are read no further.
-pub defined-over : (r : Reading) (ws : List (List ℕ)) → isDefined r ≡ true → definedFrom r ws ≡ r
+pub defined-over : (r : Known) (ws : List (List ℕ)) → isDefined r ≡ true → definedFrom r ws ≡ r
 defined-over r [] d = refl
 defined-over r (w ∷ ws) d = rw d

@@ -8,18 +8,18 @@ use Rattle.sections.specs.declared.Place.the-variants.{Between}
 use Rattle.sections.specs.Sections.{isBody}
 use Rattle.tokens.specs.Tokens.{wordsOf}
 use Rattle.wires.specs.Wires.{Var}
-use Rattle.dumps.specs.Reading.{Reading, unread, after, isBetween}
+use Rattle.dumps.specs.Reading.{Known, unread, after, isBetween}
 
 -- Whether the definitions are over and no section is entered.
-abbrev pub isDefined : Reading → Bool
+abbrev pub isDefined : Known → Bool
 isDefined r = isBody (r .spot .stage) && isBetween (r .spot .place)
 
 -- The reading where the definitions are over, or else at the end.
-abbrev pub definedBy : Bool → Reading → Reading → Reading
+abbrev pub definedBy : Bool → Known → Known → Known
 definedBy true r rest = r
 definedBy false r rest = rest
 
-abbrev pub definedFrom : Reading → List (List ℕ) → Reading
+abbrev pub definedFrom : Known → List (List ℕ) → Known
 definedFrom r [] = r
 definedFrom r (w ∷ ws) = definedBy (isDefined r) r (definedFrom (after r w) ws)
 
@@ -28,5 +28,5 @@ unfoldable pub varsOf : List ℕ → List Var
 varsOf dump = definedFrom unread (wordsOf dump) .vars
 
 -- A reading behind the definitions of a dump, outside or inside a section, by whether a time line has come.
-abbrev pub bodyAt : List ℕ → Place → Bool → Reading
+abbrev pub bodyAt : List ℕ → Place → Bool → Known
 bodyAt dump place begun = record { spot = record { stage = Body; place = place }; code = []; vars = varsOf dump; begun = begun }

@@ -10,11 +10,11 @@ use Rattle.sections.specs.declared.Place.{Place}
 use Rattle.sections.specs.declared.Place.the-variants.{Between, Skipped, ScaleNumber, ScaleUnit, ScopeKind, ScopeName, VarKind, VarWidth, VarCode, VarName, Close, Values, Wrong}
 use Rattle.sections.specs.Sections.{Says, moves, codes, names, defines, times, puts, breaks}
 use Rattle.tokens.specs.Tokens.{Token, tokensFrom, lastLine}
-use Rattle.wires.specs.Wires.{allWires, laid, namedOf, hasWire, wireOf}
+use Rattle.wires.specs.Wires.{allWires, laid, namedOf, hasWire, weightOf}
 use Rattle.wires.specs.Values.{unfit}
-use Rattle.dumps.specs.Reading.{Reading, unread, saysOf, after}
+use Rattle.dumps.specs.Reading.{Known, unread, saysOf, after}
 use Rattle.dumps.specs.Defined.{isDefined}
-use Rattle.dumps.specs.Samples.{samplesOf}
+use Rattle.dumps.specs.Samples.{samplesIn}
 
 -- What the time lines and values so far were: how many time lines, the latest time, and the wires that have a value.
 pub record Heard : Type 0 where
@@ -53,10 +53,10 @@ lacks h = not (eqb (h .given) allWires)
 -- The fault of a token, by what it says: 20 malformed; 21 a wanted name a second time, or one that is missing at the end of the
 -- definitions; 22 a time not above the one before; 23 a value that its wire does not take, or a wire without one at the second time line
 -- (2026-03, refusals).
-unfoldable pub faultBy : Says → Reading → Heard → List ℕ → ℕ
+unfoldable pub faultBy : Says → Known → Heard → List ℕ → ℕ
 faultBy (moves spot) r h w = 0
 faultBy codes r h w = 0
-faultBy names r h w = faultIf (hasWire (namedOf (r .vars)) (wireOf w)) 21
+faultBy names r h w = faultIf (hasWire (namedOf (r .vars)) (weightOf w)) 21
 faultBy defines r h w = faultIf (not (eqb (namedOf (r .vars)) allWires)) 21
 faultBy (times t) r h w = timeFault (ltb 0 (h .lines) && leb t (h .time)) (eqb (h .lines) 1 && lacks h)
 faultBy (puts c marks) r h w = faultIf (unfit c marks) 23
@@ -86,7 +86,7 @@ isWrong Values = false
 isWrong Wrong = true
 
 -- The fault at the end (2026-03, refusals: at the end).
-unfoldable pub endFault : Reading → Heard → ℕ
+unfoldable pub endFault : Known → Heard → ℕ
 endFault r h =
     endBy (isWrong (r .spot .place)) (isDefined r) (ltb (h .lines) 2 && lacks h)
 
@@ -105,7 +105,7 @@ unfoldable pub note : ℕ → ℕ → List Fault → List Fault
 note line number fs = noteBy (eqb number 0) line number fs
 
 -- All faults of tokens, with those at the end on the last line (2026-03, refusals).
-abbrev pub faultsFrom : Reading → Heard → List Token → ℕ → List Fault
+abbrev pub faultsFrom : Known → Heard → List Token → ℕ → List Fault
 faultsFrom r h [] last = note last (endFault r h) []
 faultsFrom r h (t ∷ ts) last =
     note (t .line) (faultBy (saysOf r (t .word)) r h (t .word))
@@ -141,4 +141,4 @@ verdictBy (f ∷ fs) count = refused (leastFrom f fs .number) (suc (leastFrom f 
 
 -- The verdict on a dump (2026-03, refusals 20 to 23).
 unfoldable pub dumpVerdict : List ℕ → Verdict
-dumpVerdict dump = verdictBy (faultsOf dump) (length (samplesOf dump))
+dumpVerdict dump = verdictBy (faultsOf dump) (length (samplesIn dump))

@@ -16,14 +16,14 @@ use Rattle.wires.specs.Values.{isValue}
 
 -- What is known of a dump at a token: where it stands, the code of the wire that is being declared, the wires declared, the latest first,
 -- and whether a time line has come.
-pub record Reading : Type 0 where
+pub record Known : Type 0 where
   pub spot : Spot
   pub code : List ℕ
   pub vars : List Var
   pub begun : Bool
 
 -- Before the first token nothing has come.
-abbrev pub unread : Reading
+abbrev pub unread : Known
 unread = record { spot = record { stage = Start; place = Between }; code = []; vars = []; begun = false }
 
 -- Whether a place is outside every section.
@@ -55,27 +55,27 @@ abbrev pub valueSays : Bool → ℕ → ℕ → Says
 valueSays begun marks c = sayBy (begun && ltb 0 marks) (puts c marks)
 
 -- A token behind the definitions by its first character: a time, a value, or what else may stand there (2026-03, time lines, values).
-abbrev pub bodyBy : Bool → Bool → Reading → ℕ → List ℕ → Says
+abbrev pub bodyBy : Bool → Bool → Known → ℕ → List ℕ → Says
 bodyBy true value r c cs = timeSays (timeOf cs)
 bodyBy false true r c cs = valueSays (r .begun) (marksOf (r .vars) cs) c
 bodyBy false false r c cs = sectionSays Between Body (c ∷ cs)
 
 -- A token between two sections behind the definitions (2026-03, time lines, values).
-abbrev pub bodySays : Reading → List ℕ → Says
+abbrev pub bodySays : Known → List ℕ → Says
 bodySays r [] = breaks
 bodySays r (c ∷ cs) = bodyBy (eqb c hash) (isValue c) r c cs
 
 -- A token among dumped values: a value, or their end (2026-03, dumpvars: values alone inside).
-abbrev pub dumpedBy : Bool → Reading → ℕ → List ℕ → Says
+abbrev pub dumpedBy : Bool → Known → ℕ → List ℕ → Says
 dumpedBy true r c cs = valueSays (r .begun) (marksOf (r .vars) cs) c
 dumpedBy false r c cs = sectionSays Values Body (c ∷ cs)
 
-abbrev pub dumpedSays : Reading → List ℕ → Says
+abbrev pub dumpedSays : Known → List ℕ → Says
 dumpedSays r [] = breaks
 dumpedSays r (c ∷ cs) = dumpedBy (isValue c) r c cs
 
 -- Only behind the definitions does a token between sections give times and values.
-abbrev pub betweenSays : Stage → Reading → List ℕ → Says
+abbrev pub betweenSays : Stage → Known → List ℕ → Says
 betweenSays Start r w = sectionSays Between Start w
 betweenSays Scaled r w = sectionSays Between Scaled w
 betweenSays Scoped r w = sectionSays Between Scoped w
@@ -83,7 +83,7 @@ betweenSays Closed r w = sectionSays Between Closed w
 betweenSays Body r w = bodySays r w
 
 -- A token by the place where it stands (2026-03, sections, time lines, values).
-abbrev pub saysAt : Place → Reading → List ℕ → Says
+abbrev pub saysAt : Place → Known → List ℕ → Says
 saysAt Between r w = betweenSays (r .spot .stage) r w
 saysAt Skipped r w = sectionSays Skipped (r .spot .stage) w
 saysAt ScaleNumber r w = sectionSays ScaleNumber (r .spot .stage) w
@@ -99,15 +99,15 @@ saysAt Values r w = dumpedSays r w
 saysAt Wrong r w = sectionSays Wrong (r .spot .stage) w
 
 -- What a token says (2026-03, sections, time lines, values).
-unfoldable pub saysOf : Reading → List ℕ → Says
+unfoldable pub saysOf : Known → List ℕ → Says
 saysOf r w = saysAt (r .spot .place) r w
 
 -- A reading at another spot.
-abbrev pub withSpot : Reading → Stage → Place → Reading
+abbrev pub withSpot : Known → Stage → Place → Known
 withSpot r stage place = record { spot = record { stage = stage; place = place }; code = r .code; vars = r .vars; begun = r .begun }
 
 -- What is known behind a token, by what it said; behind a malformed one nothing counts any more.
-unfoldable pub afterBy : Says → Reading → List ℕ → Reading
+unfoldable pub afterBy : Says → Known → List ℕ → Known
 afterBy (moves spot) r w = withSpot r (spot .stage) (spot .place)
 afterBy codes r w = record { spot = record { stage = r .spot .stage; place = VarName }; code = w; vars = r .vars; begun = r .begun }
 afterBy names r w =
@@ -123,5 +123,5 @@ afterBy (puts c marks) r w = r
 afterBy breaks r w = withSpot r (r .spot .stage) Wrong
 
 -- What is known behind a token.
-abbrev pub after : Reading → List ℕ → Reading
+abbrev pub after : Known → List ℕ → Known
 after r w = afterBy (saysOf r w) r w

@@ -8,7 +8,7 @@ use Rattle.sections.specs.Sections.{Says, moves, codes, names, defines, times, 
 use Rattle.tokens.specs.Tokens.{wordsOf}
 use Rattle.wires.specs.Wires.{laid}
 use Rattle.wires.specs.Values.{levelOf}
-use Rattle.dumps.specs.Reading.{Reading, unread, saysOf, after}
+use Rattle.dumps.specs.Reading.{Known, unread, saysOf, after}
 
 -- A time line's moment: its time, and the last values up to the next time line, as a level byte (2026-03, each time line).
 pub record Moment : Type 0 where
@@ -26,7 +26,7 @@ momentsBy (puts c marks) time level rest = rest time (laid (levelOf c) marks lev
 momentsBy breaks time level rest = rest time level
 
 -- The moments from one that is open on; the last ends with the dump (2026-03, the last values up to the next).
-abbrev pub momentsFrom : Reading → List (List ℕ) → ℕ → ℕ → List Moment
+abbrev pub momentsFrom : Known → List (List ℕ) → ℕ → ℕ → List Moment
 momentsFrom r [] time level = record { time = time; level = level } ∷ []
 momentsFrom r (w ∷ ws) time level = momentsBy (saysOf r w) time level (momentsFrom (after r w) ws)
 
@@ -66,13 +66,13 @@ samplesBy (puts c marks) opened rest = rest
 samplesBy breaks opened rest = rest
 
 -- The samples of tokens (2026-03, each time line makes one sample).
-abbrev pub samplesFrom : Reading → List (List ℕ) → List Sample
+abbrev pub samplesFrom : Known → List (List ℕ) → List Sample
 samplesFrom r [] = []
 samplesFrom r (w ∷ ws) = samplesBy (saysOf r w) (momentsFrom (after r w) ws) (samplesFrom (after r w) ws)
 
 -- The samples of a dump (2026-03, each time line makes one sample).
-unfoldable pub samplesOf : List ℕ → List Sample
-samplesOf dump = samplesFrom unread (wordsOf dump)
+unfoldable pub samplesIn : List ℕ → List Sample
+samplesIn dump = samplesFrom unread (wordsOf dump)
 
 -- Their times, as a capture has them (What goes in and what comes out).
 abbrev pub elapsedOf : List Sample → List ℕ

@@ -15,8 +15,8 @@ use Rattle.sections.specs.declared.Step.{Step}
 use Rattle.sections.specs.declared.Step.the-variants.{Moves, Codes, Names, Defines, Breaks}
 use Rattle.sections.specs.Sections.{Says, stepMeant}
 use Rattle.sections.proofs.SectionLaws.{step-moves, step-codes, step-names, step-defines, step-breaks}
-use Rattle.wires.specs.Wires.{Var, allWires, namedOf, hasWire, wireOf}
-use Rattle.dumps.specs.Samples.{momentsFrom, samplesBy, samplesFrom, samplesOf}
+use Rattle.wires.specs.Wires.{Var, allWires, namedOf, hasWire, weightOf}
+use Rattle.dumps.specs.Samples.{momentsFrom, samplesBy, samplesFrom, samplesIn}
 use Rattle.dumps.specs.Faults as dumped
 use Rattle.dumps.specs.Faults.{unheard, heardBy, faultIf, faultBy, note, faultsFrom, faultsOf, verdictBy}
 use Rattle.dumps.proofs.Silent.{silent-faults, silent-samples}
@@ -33,10 +33,10 @@ pub record Judges (dump : List ℕ) (fault : Fault) (at line : ℕ) (stage : Sta
       ≡ verdictBy
       (note (fault .line) (fault .number) (faultsFrom (heading stage place code vars) unheard (tokensFrom line (drop at dump)) (lastLine dump)))
       count
-  pub samples : samplesOf dump ≡ samplesFrom (heading stage place code vars) (wordsOf (drop at dump))
+  pub samples : samplesIn dump ≡ samplesFrom (heading stage place code vars) (wordsOf (drop at dump))
 
 pub judges-start : (dump code : List ℕ) → Judges dump (record { number = 0; line = 0 }) 0 0 Start Between code []
-unfolding faultsOf samplesOf note
+unfolding faultsOf samplesIn note
 judges-start dump code = record { verdict = λ count. refl; samples = refl }
 
 -- A token of them, by the step that it is.
@@ -57,7 +57,7 @@ module _ {dump : List ℕ} {fault : Fault} {at line : ℕ} {stage : Stage} {plac
       ∙ faults-said stage place code vars (take (to - from) (drop from dump)) p (m .goes) (sym (m .said) ∙ e) on (tokensFrom on (drop to dump)) (lastLine dump))
 
   samples-left : {s : Says} → stepMeant r ≡ s
-      → samplesOf dump
+      → samplesIn dump
       ≡ samplesBy s (momentsFrom (behind s stage place code vars (take (to - from) (drop from dump))) (wordsOf (drop to dump)))
       (samplesFrom (behind s stage place code vars (take (to - from) (drop from dump))) (wordsOf (drop to dump)))
   samples-left e =
@@ -73,7 +73,7 @@ module _ {dump : List ℕ} {fault : Fault} {at line : ℕ} {stage : Stage} {plac
   unfolding faultBy heardBy note
   judges-codes e = record { verdict = verdict-said (step-codes r e); samples = samples-left (step-codes r e) }
 
-  pub judges-names : {n : ℕ} → r ≡ Names → n ≡ faultIf (hasWire (namedOf vars) (wireOf (take (to - from) (drop from dump)))) 21
+  pub judges-names : {n : ℕ} → r ≡ Names → n ≡ faultIf (hasWire (namedOf vars) (weightOf (take (to - from) (drop from dump)))) 21
       → Judges dump (joinedOf fault n on) to on stage Close code (record { code = code; name = take (to - from) (drop from dump) } ∷ vars)
   unfolding faultBy heardBy
   judges-names {n} e g =
@@ -99,5 +99,5 @@ module _ {dump : List ℕ} {fault : Fault} {at line : ℕ} {stage : Stage} {plac
       verdict-said (step-breaks r e) count
       ∙ rw (silent-faults stage (waiting place code) vars false unheard (tokensFrom on (drop to dump)) (lastLine dump)) (joined-verdict fault 20 on [] count)
 
-  pub samples-breaks : r ≡ Breaks → samplesOf dump ≡ []
+  pub samples-breaks : r ≡ Breaks → samplesIn dump ≡ []
   samples-breaks e = samples-left (step-breaks r e) ∙ silent-samples stage (waiting place code) vars false (wordsOf (drop to dump))

@@ -14,7 +14,7 @@ use Rattle.sections.specs.declared.Place.the-variants.{Between, VarName, Close}
 use Rattle.sections.specs.declared.Step.{Step}
 use Rattle.sections.specs.declared.Step.the-variants.{Moves, Codes, Names, Defines, Breaks}
 use Rattle.sections.specs.Sections.{isBody}
-use Rattle.wires.specs.Wires.{Var, wireOf, marksBy, marksOf}
+use Rattle.wires.specs.Wires.{Var, weightOf, marksBy, marksOf}
 use Rattle.dumps.specs.Reading.{isBetween}
 use Rattle.dumps.specs.Defined.{varsOf}
 use Rattle.headings.proofs.Walks.{Walks, Meets, walks-start, walks-moves, walks-codes, walks-names, walks-defines, vars-over, vars-end, vars-breaks}
@@ -65,7 +65,7 @@ module _ {dump code : List ℕ} {at line : ℕ} {stage : Stage} {place : Place} 
           found = k .found;
         }
 
-    pub seeks-names : {n : ℕ} → r ≡ Names → n ≡ marksBy its (wireOf (take (to - from) (drop from dump))) marks
+    pub seeks-names : {n : ℕ} → r ≡ Names → n ≡ marksBy its (weightOf (take (to - from) (drop from dump))) marks
         → Seeks dump code to on stage Close its n
     seeks-names e g =
         record {

@@ -15,7 +15,7 @@ use Rattle.sections.specs.declared.Place.the-variants.{Between, VarName, Close}
 use Rattle.sections.specs.declared.Step.{Step}
 use Rattle.sections.specs.declared.Step.the-variants.{Moves, Codes, Names, Defines as Ends, Breaks}
 use Rattle.sections.specs.Sections.{isBody}
-use Rattle.wires.specs.Wires.{Var, allWires, laid, namedOf, hasWire, wireOf}
+use Rattle.wires.specs.Wires.{Var, allWires, laid, namedOf, hasWire, weightOf}
 use Rattle.dumps.specs.Reading.{isBetween}
 use Rattle.dumps.specs.Defined.{bodyAt}
 use Rattle.dumps.specs.Faults.{unheard, faultIf}
@@ -116,7 +116,7 @@ module _ {dump table : List ℕ} {at line : ℕ} {stage : Stage} {place : Place}
           ends = m .found .inside;
         }
 
-    pub stands-names : {wire n name : ℕ} {f : Fault} {t : List ℕ} → r ≡ Names → wire ≡ wireOf (take (to - from) (drop from dump))
+    pub stands-names : {wire n name : ℕ} {f : Fault} {t : List ℕ} → r ≡ Names → wire ≡ weightOf (take (to - from) (drop from dump))
         → n ≡ faultIf (hasWire named wire) 21 → f ≡ joinedOf fault n on → name ≡ laid 1 wire named
         → t ≡ declaredIn table (take (ct - cf) (drop cf dump)) wire → Stands dump t to on stage Close cf ct name f
     stands-names {wire} {n} e w g j l d =

@@ -8,7 +8,7 @@ use lib.Dec.{eqb}
 use lib.ListN.{length, getD, set, take, replicate, length-set, length-replicate, getD-replicate}
 use lib.Seq.{take-suc-set, take-all, getD-set-same, getD-set-other}
 use borrow.Author.Tests.{eqb-true, eqb-false}
-use Rattle.wires.specs.Wires.{Var, marked, marksBy, marksOf, wireOf}
+use Rattle.wires.specs.Wires.{Var, marked, marksBy, marksOf, weightOf}
 use Rattle.headings.specs.Parts.{Tabled, declaredIn}
 
 -- One turn of the clearing: a nought is stored, and what is left is cleared behind it.
@@ -55,26 +55,26 @@ never false wire marks = refl
 -- An entry, by whether its code is the one declared.
 module _ (vars : List Var) (table : List ℕ) (d : ℕ) (name : List ℕ) (t : Tabled vars table) where
   entry-by : (c : ℕ) (b : Bool) → c < 256 → eqb c d ≡ b
-      → getD (set table d (marked (getD table d 0) (wireOf name))) c 0
-      ≡ marksBy (b && true) (wireOf name) (marksOf vars (c ∷ []))
+      → getD (set table d (marked (getD table d 0) (weightOf name))) c 0
+      ≡ marksBy (b && true) (weightOf name) (marksOf vars (c ∷ []))
   entry-by c true h e =
       let g : c ≡ d = eqb-true c d e in
       let k = t .size in
-      rw (← g, getD-set-same table c (marked (getD table c 0) (wireOf name)) 0 (omega arith), t .entry c h)
+      rw (← g, getD-set-same table c (marked (getD table c 0) (weightOf name)) 0 (omega arith), t .entry c h)
   entry-by c false h e = getD-set-other table d c _ 0 (eqb-false c d e) ∙ t .entry c h
 
 -- The table with one more wire is that of the wires with one more.
 pub tabled-more : (vars : List Var) (table code name : List ℕ) → Tabled vars table
-    → Tabled (record { code = code; name = name } ∷ vars) (declaredIn table code (wireOf name))
+    → Tabled (record { code = code; name = name } ∷ vars) (declaredIn table code (weightOf name))
 unfolding declaredIn
 tabled-more vars table [] name t = record { size = t .size; entry = λ c h. t .entry c h }
 tabled-more vars table (d ∷ []) name t =
     record {
-      size = length-set table d (marked (getD table d 0) (wireOf name)) ∙ t .size;
+      size = length-set table d (marked (getD table d 0) (weightOf name)) ∙ t .size;
       entry = λ c h. entry-by vars table d name t c (eqb c d) h refl;
     }
 tabled-more vars table (d ∷ f ∷ ds) name t =
-    record { size = t .size; entry = λ c h. t .entry c h ∙ never (eqb c d) (wireOf name) (marksOf vars (c ∷ [])) }
+    record { size = t .size; entry = λ c h. t .entry c h ∙ never (eqb c d) (weightOf name) (marksOf vars (c ∷ [])) }
 
 -- The marks of a code of one character.
 pub tabled-mark : (vars : List Var) (table code : List ℕ) {c : ℕ} → Tabled vars table → length code ≡ 1 → c ≡ getD code 0 0 → c < 256

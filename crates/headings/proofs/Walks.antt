@@ -17,7 +17,7 @@ use Rattle.sections.specs.declared.Step.the-variants.{Moves, Codes, Names, Defi
 use Rattle.sections.specs.Sections.{Says, isBody, stepMeant, sectionSays}
 use Rattle.sections.proofs.SectionLaws.{step-moves, step-codes, step-names, step-defines, step-breaks}
 use Rattle.wires.specs.Wires.{Var}
-use Rattle.dumps.specs.Reading.{Reading, isBetween}
+use Rattle.dumps.specs.Reading.{Known, isBetween}
 use Rattle.dumps.specs.Defined.{definedFrom, varsOf}
 use Rattle.dumps.proofs.Taken.{defined-over}
 use Rattle.dumps.proofs.Silent.{silent-vars}
@@ -44,7 +44,7 @@ module _ {dump : List ℕ} {at line : ℕ} {stage : Stage} {place : Place} {code
     (k : Walks dump at line stage place code vars) where
   -- Where the definitions are over, or the dump ends, no wire is left to find.
   pub vars-over : isBody stage && isBetween place ≡ true → varsOf dump ≡ vars
-  vars-over d = k .left ∙ ap (λ (r : Reading). r .vars) (defined-over (heading stage place code vars) (wordsOf (drop at dump)) d)
+  vars-over d = k .left ∙ ap (λ (r : Known). r .vars) (defined-over (heading stage place code vars) (wordsOf (drop at dump)) d)
 
   pub vars-end : tokensFrom line (drop at dump) ≡ [] → varsOf dump ≡ vars
   vars-end e =
@@ -57,7 +57,7 @@ module _ {dump : List ℕ} {at line : ℕ} {stage : Stage} {place : Place} {code
     vars-said e =
         k .left
         ∙ ap (λ (ws : List (List ℕ)). definedFrom (heading stage place code vars) ws .vars) (words-found dump at line from to on (m .found))
-        ∙ ap (λ (r : Reading). r .vars)
+        ∙ ap (λ (r : Known). r .vars)
         (defined-said stage place code vars (take (to - from) (drop from dump)) (k .stands) (m .goes) (sym (m .said) ∙ e) (wordsOf (drop to dump)))
 
     on-small : on ≤ to

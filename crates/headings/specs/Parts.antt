@@ -9,7 +9,7 @@ use Rattle.sections.specs.declared.Place.the-variants.{Between}
 use Rattle.tokens.specs.Tokens.{wordsOf, tokensFrom, lastLine}
 use Rattle.wires.specs.Wires.{Var, marked, marksOf}
 use Rattle.dumps.specs.Defined.{varsOf, bodyAt}
-use Rattle.dumps.specs.Samples.{samplesOf, samplesFrom}
+use Rattle.dumps.specs.Samples.{samplesIn, samplesFrom}
 use Rattle.dumps.specs.Faults.{unheard, comesFirst, note, verdictBy, faultsOf, faultsFrom}
 use Rattle.headings.specs.declared.Heading.{Heading}
 use Rattle.headings.specs.declared.faults.Fault.{Fault}
@@ -47,11 +47,11 @@ pub record Defines (dump : List ℕ) (r : Heading) (table : List ℕ) : Type 0 w
   pub over : r .over ≡ true
       → ((count : ℕ) → verdictBy (faultsOf dump) count
       ≡ verdictBy (note (r .fault .line) (r .fault .number) (faultsFrom (bodyAt dump Between false) unheard (tokensFrom (r .line) (drop (r .at) dump)) (lastLine dump))) count)
-      × (samplesOf dump ≡ samplesFrom (bodyAt dump Between false) (wordsOf (drop (r .at) dump)))
+      × (samplesIn dump ≡ samplesFrom (bodyAt dump Between false) (wordsOf (drop (r .at) dump)))
   pub short : r .over ≡ false → r .wrong ≡ false
       → ((count : ℕ) → verdictBy (faultsOf dump) count
       ≡ verdictBy (note (r .fault .line) (r .fault .number) (note (lastLine dump) 20 [])) count)
-      × (samplesOf dump ≡ [])
+      × (samplesIn dump ≡ [])
   pub wrong : r .over ≡ false → r .wrong ≡ true
       → ((count : ℕ) → verdictBy (faultsOf dump) count ≡ verdictBy (note (r .fault .line) (r .fault .number) []) count)
-      × (samplesOf dump ≡ [])
+      × (samplesIn dump ≡ [])

@@ -9,7 +9,7 @@ use wires::marks;
 ghost use mathlib.Core.Path.{_≡_};
 ghost use Prim.Native.Nat.{_≤_};
 ghost use lib.ListN.{length};
-ghost use Rattle.wires.specs.Wires.{wireOf, marksBy, marksOf};
+ghost use Rattle.wires.specs.Wires.{weightOf, marksBy, marksOf};
 ghost use Rattle.dumps.specs.Defined.{varsOf};
 ghost use Rattle.headings.specs.Parts.{Tabled};
 
@@ -63,7 +63,7 @@ fn search(dump: &[u8], code: &[u8]) -> u8
 
 // The marks with one more name, if the name has the code.
 fn declare(is_its: bool, so_far: u8, name: &[u8]) -> u8
-    ensures { λ r. ⌜ r ≡ marksBy «is_its» (wireOf (now (name .entry))) «so_far» ⌝ }
+    ensures { λ r. ⌜ r ≡ marksBy «is_its» (weightOf (now (name .entry))) «so_far» ⌝ }
 {
     if is_its {
         return marks::mark(so_far, marks::wire_of(name));

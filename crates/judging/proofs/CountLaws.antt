@@ -8,7 +8,7 @@ use lib.ListN.{length, length-append, length-replicate}
 use Rattle.sections.specs.Sections.{Says, moves, codes, names, defines, times, puts, breaks}
 use Rattle.wires.specs.Wires.{laid}
 use Rattle.wires.specs.Values.{levelOf}
-use Rattle.dumps.specs.Reading.{Reading, saysOf, afterBy, after}
+use Rattle.dumps.specs.Reading.{Known, saysOf, afterBy, after}
 use Rattle.dumps.specs.Samples.{Moment, momentsBy, momentsFrom, repeatsOf, gapTo, spread, samplesBy, samplesFrom}
 use Rattle.dumps.proofs.SampleLaws.{opened}
 use Rattle.judging.specs.Parts.{gapBy, laterBy, laterOf}
@@ -39,7 +39,7 @@ spread-by (times t) time level gap old rest more d h =
 spread-by (puts c marks) time level gap old rest more d h = h time (laid (levelOf c) marks level) gap old
 spread-by breaks time level gap old rest more d h = h time level gap old
 
-begun-by : (s : Says) (r : Reading) (w : List ℕ) → r .begun ≡ true → afterBy s r w .begun ≡ true
+begun-by : (s : Says) (r : Known) (w : List ℕ) → r .begun ≡ true → afterBy s r w .begun ≡ true
 unfolding afterBy
 begun-by (moves spot) r w e = e
 begun-by codes r w e = e
@@ -49,7 +49,7 @@ begun-by (times t) r w e = refl
 begun-by (puts c marks) r w e = e
 begun-by breaks r w e = e
 
-pub later-spread : (r : Reading) (ws : List (List ℕ)) (time level gap old : ℕ) → r .begun ≡ true
+pub later-spread : (r : Known) (ws : List (List ℕ)) (time level gap old : ℕ) → r .begun ≡ true
     → length (spread gap old (momentsFrom r ws time level)) ≡ repeatsOf gap + 1 + laterOf r ws time
 later-spread r [] time level gap old e =
     spread-length gap old (record { time = time; level = level }) [] ∙ omega arith
@@ -59,7 +59,7 @@ later-spread r (w ∷ ws) time level gap old e =
     ∙ ap (λ (b : Bool). repeatsOf gap + 1 + laterBy (saysOf r w) b time (laterOf (after r w) ws)) (sym e)
 
 -- Before the first time line: those of all time lines.
-samples-by : (s : Says) (r : Reading) (w : List ℕ) (ws : List (List ℕ)) (time : ℕ) → r .begun ≡ false
+samples-by : (s : Says) (r : Known) (w : List ℕ) (ws : List (List ℕ)) (time : ℕ) → r .begun ≡ false
     → (afterBy s r w .begun ≡ false → length (samplesFrom (afterBy s r w) ws) ≡ laterOf (afterBy s r w) ws time)
     → length (samplesBy s (momentsFrom (afterBy s r w) ws) (samplesFrom (afterBy s r w) ws))
     ≡ laterBy s false time (laterOf (afterBy s r w) ws)
@@ -72,7 +72,7 @@ samples-by (times t) r w ws time e h = later-spread (afterBy (times t) r w) ws t
 samples-by (puts c marks) r w ws time e h = h e
 samples-by breaks r w ws time e h = h e
 
-pub later-samples : (r : Reading) (ws : List (List ℕ)) (time : ℕ) → r .begun ≡ false → length (samplesFrom r ws) ≡ laterOf r ws time
+pub later-samples : (r : Known) (ws : List (List ℕ)) (time : ℕ) → r .begun ≡ false → length (samplesFrom r ws) ≡ laterOf r ws time
 later-samples r [] time e = refl
 later-samples r (w ∷ ws) time e =
     samples-by (saysOf r w) r w ws time e (λ f. later-samples (after r w) ws time f)

@@ -11,9 +11,9 @@ use Rattle.ground.specs.Verdict.{meant}
 use Rattle.ground.specs.declared.Reply.{Reply}
 use Rattle.tokens.specs.Tokens.{tokensFrom, wordsOf, lastLine}
 use Rattle.wires.specs.Times.{highestTime}
-use Rattle.dumps.specs.Reading.{Reading}
+use Rattle.dumps.specs.Reading.{Known}
 use Rattle.dumps.specs.Defined.{bodyAt}
-use Rattle.dumps.specs.Samples.{samplesOf}
+use Rattle.dumps.specs.Samples.{samplesIn}
 use Rattle.dumps.specs.Faults as dumped
 use Rattle.dumps.specs.Faults.{note, faultsFrom, faultsOf, verdictBy, dumpVerdict}
 use Rattle.headings.specs.declared.Heading.{Heading}
@@ -81,14 +81,14 @@ count-free line n x y false e h = refl
 
 pub judged : (dump : List ℕ) (fault : Fault) (samples : ℕ) (r : Reply)
     → ((count : ℕ) → verdictBy (faultsOf dump) count ≡ verdictBy (note (fault .line) (fault .number) []) count)
-    → (fault .number ≡ 0 → samples ≡ length (samplesOf dump))
+    → (fault .number ≡ 0 → samples ≡ length (samplesIn dump))
     → meant r ≡ verdictBy (note (fault .line) (fault .number) []) samples → Judges dump r
 unfolding dumpVerdict note
 judged dump fault samples r v h e =
     record {
       reply =
-          e ∙ count-free (fault .line) (fault .number) samples (length (samplesOf dump)) (eqb (fault .number) 0) refl h
-          ∙ sym (v (length (samplesOf dump)));
+          e ∙ count-free (fault .line) (fault .number) samples (length (samplesIn dump)) (eqb (fault .number) 0) refl h
+          ∙ sym (v (length (samplesIn dump)));
     }
 
 -- Where the definitions do not end, the dump has no sample.

@@ -17,7 +17,7 @@ use Rattle.wires.specs.Wires.{laid, allWires}
 use Rattle.wires.specs.Values.{unfit}
 use Rattle.dumps.specs.Reading.{saysOf, afterBy, isBetween}
 use Rattle.dumps.specs.Defined.{varsOf, bodyAt}
-use Rattle.dumps.specs.Samples.{repeatsOf, samplesOf}
+use Rattle.dumps.specs.Samples.{repeatsOf, samplesIn}
 use Rattle.dumps.specs.Faults as dumped
 use Rattle.dumps.specs.Faults.{faultIf, timeFault, heardBy, faultBy, endBy, endFault, note, faultsFrom, faultsOf, verdictBy}
 use Rattle.dumps.proofs.Taken.{faults-token}
@@ -76,7 +76,7 @@ module _ (dump : List ℕ) (at line : ℕ) (fault : Fault) (mode : Mode) (heard 
     turn-samples : fault .number ≡ 0
         → heard .samples
         + laterBy s (ltb 0 (heard .lines)) (heard .time) (laterOf (afterBy s (readingAt dump mode heard) wordAt) (wordsOf (drop to dump)))
-        ≡ length (samplesOf dump)
+        ≡ length (samplesIn dump)
     turn-samples z = rw (← e) (rw (words-found dump at line from to on f) at (k .samples z))
 
   -- A section's token leads on.

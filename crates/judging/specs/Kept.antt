@@ -6,9 +6,9 @@ use lib.Dec.{ltb}
 use lib.ListN.{length, drop}
 use Rattle.tokens.specs.Tokens.{tokensFrom, wordsOf, lastLine}
 use Rattle.wires.specs.Times.{highestTime}
-use Rattle.dumps.specs.Reading.{Reading}
+use Rattle.dumps.specs.Reading.{Known}
 use Rattle.dumps.specs.Defined.{bodyAt}
-use Rattle.dumps.specs.Samples.{samplesOf}
+use Rattle.dumps.specs.Samples.{samplesIn}
 use Rattle.dumps.specs.Faults.{note, faultsFrom, faultsOf, verdictBy}
 use Rattle.headings.specs.declared.faults.Fault.{Fault}
 use Rattle.changes.specs.declared.Mode.{Mode}
@@ -18,7 +18,7 @@ use Rattle.judging.specs.declared.Plain.{Plain}
 use Rattle.judging.specs.Parts.{heardOf, laterOf}
 
 -- The reading behind the definitions, as far as it was heard.
-abbrev pub readingAt : List ℕ → Mode → Heard → Reading
+abbrev pub readingAt : List ℕ → Mode → Heard → Known
 readingAt dump mode heard = bodyAt dump (placeOf mode) (ltb 0 (heard .lines))
 
 -- What is kept from token to token: the first fault so far and those of what is left give the dump's verdict, and as long as there is none,
@@ -34,7 +34,7 @@ pub record Kept (dump : List ℕ) (at line : ℕ) (fault : Fault) (mode : Mode) 
   pub verdict : (count : ℕ) → verdictBy (faultsOf dump) count
       ≡ verdictBy (note (fault .line) (fault .number) (faultsFrom (readingAt dump mode heard) (heardOf heard) (tokensFrom line (drop at dump)) (lastLine dump))) count
   pub samples : fault .number ≡ 0
-      → heard .samples + laterOf (readingAt dump mode heard) (wordsOf (drop at dump)) (heard .time) ≡ length (samplesOf dump)
+      → heard .samples + laterOf (readingAt dump mode heard) (wordsOf (drop at dump)) (heard .time) ≡ length (samplesIn dump)
 
 -- No fault at all.
 abbrev pub noFault : Fault

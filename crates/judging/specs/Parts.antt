@@ -4,7 +4,7 @@ use mathlib.Core.Bool.{Bool, true, false}
 use mathlib.Core.List.{List, [], _∷_}
 use lib.Dec.{ltb}
 use Rattle.sections.specs.Sections.{Says, moves, codes, names, defines, times, puts, breaks}
-use Rattle.dumps.specs.Reading.{Reading, saysOf, after}
+use Rattle.dumps.specs.Reading.{Known, saysOf, after}
 use Rattle.dumps.specs.Samples.{repeatsOf}
 use Rattle.dumps.specs.Faults as dumped
 use Rattle.judging.specs.declared.Heard.{Heard}
@@ -47,6 +47,6 @@ laterBy (times t) begun time rest = repeatsOf (gapBy begun time t) + 1 + rest t
 laterBy (puts c marks) begun time rest = rest time
 laterBy breaks begun time rest = rest time
 
-abbrev pub laterOf : Reading → List (List ℕ) → ℕ → ℕ
+abbrev pub laterOf : Known → List (List ℕ) → ℕ → ℕ
 laterOf r [] time = 0
 laterOf r (w ∷ ws) time = laterBy (saysOf r w) (r .begun) time (laterOf (after r w) ws)

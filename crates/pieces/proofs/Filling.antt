@@ -16,13 +16,13 @@ use Rattle.dumps.proofs.SampleLaws.{spread-far, spread-near, opened}
 use Rattle.pieces.specs.declared.Mark.{Mark}
 use Rattle.pieces.specs.declared.Moved.{Moved}
 use Rattle.pieces.specs.declared.Filled.{Filled}
-use Rattle.pieces.specs.Marks.{leftOf}
+use Rattle.pieces.specs.Marks.{leftFrom}
 use Rattle.pieces.specs.Parts.{behindBy}
 use Rattle.pieces.specs.Promises.{Moves, Fills, FillsRoom, laterBy}
 
 -- A dump that is over has no samples left.
-left-over : (dump : List ℕ) (m : Mark) → m .over ≡ true → leftOf dump m ≡ []
-unfolding leftOf
+left-over : (dump : List ℕ) (m : Mark) → m .over ≡ true → leftFrom dump m ≡ []
+unfolding leftFrom
 left-over dump m h = rw h
 
 -- The moments from a place on, outside every section.
@@ -31,10 +31,10 @@ moments dump at time level = momentsFrom (bodyAt dump Between true) (wordsOf (dr
 
 -- One repeat of the old levels, and the mark with less of the gap left.
 left-far : (dump : List ℕ) (m : Mark) → m .over ≡ false → mostElapsed < m .left
-    → leftOf dump m
+    → leftFrom dump m
     ≡ record { elapsed = mostElapsed; level = m .level }
-    ∷ leftOf dump (record { over = m .over; at = m .at; time = m .time; left = m .left - mostElapsed; level = m .level })
-unfolding leftOf
+    ∷ leftFrom dump (record { over = m .over; at = m .at; time = m .time; left = m .left - mostElapsed; level = m .level })
+unfolding leftFrom
 left-far dump m h k =
     rw h
     (spread-far (m .left) (m .level) (moments dump (m .at) (m .time) (m .level))
@@ -44,16 +44,16 @@ left-far dump m h k =
 left-behind : (dump : List ℕ) (time : ℕ) (moved : Moved) (over : Bool)
     → spread (gapTo time (laterBy over (moments dump (moved .at) (moved .time) (moved .level)))) (moved .level)
     (laterBy over (moments dump (moved .at) (moved .time) (moved .level)))
-    ≡ leftOf dump (behindBy over time moved)
-unfolding leftOf
+    ≡ leftFrom dump (behindBy over time moved)
+unfolding leftFrom
 left-behind dump time moved true = refl
 left-behind dump time moved false =
     rw (opened time (bodyAt dump Between true) (wordsOf (drop (moved .at) dump)) (moved .time) (moved .level) .gap)
 
 -- The moment's own sample, and the mark behind it.
 left-near : (dump : List ℕ) (m : Mark) → m .over ≡ false → (moved : Moved) → m .left ≤ mostElapsed → Moves dump (m .at) (m .level) moved
-    → leftOf dump m ≡ record { elapsed = m .left; level = moved .level } ∷ leftOf dump (behindBy (moved .over) (m .time) moved)
-unfolding leftOf
+    → leftFrom dump m ≡ record { elapsed = m .left; level = moved .level } ∷ leftFrom dump (behindBy (moved .over) (m .time) moved)
+unfolding leftFrom
 left-near dump m h moved k e =
     let later = laterBy (moved .over) (moments dump (moved .at) (moved .time) (moved .level)) in
     rw (h, e .moments (m .time))
@@ -77,13 +77,13 @@ row-turn f (x ∷ xs) (y ∷ ys) (suc i) s rest e h = ap (λ (zs : List ℕ). f 
 -- So many samples filled in.
 pub record Filling (dump : List ℕ) (from : Mark) (elapsed₀ levels₀ : List ℕ) (mark : Mark) (i : ℕ) (elapsed levels : List ℕ) : Type 0 where
   pub room : i ≤ length levels₀
-  pub some : i ≤ length (leftOf dump from)
+  pub some : i ≤ length (leftFrom dump from)
   pub even : length elapsed₀ ≡ length levels₀
   pub wide : length elapsed ≡ length elapsed₀
   pub long : length levels ≡ length levels₀
-  pub times : elapsed ≡ elapsedOf (take i (leftOf dump from)) ++ drop i elapsed₀
-  pub bytes : levels ≡ levelsOf (take i (leftOf dump from)) ++ drop i levels₀
-  pub left : leftOf dump mark ≡ drop i (leftOf dump from)
+  pub times : elapsed ≡ elapsedOf (take i (leftFrom dump from)) ++ drop i elapsed₀
+  pub bytes : levels ≡ levelsOf (take i (leftFrom dump from)) ++ drop i levels₀
+  pub left : leftFrom dump mark ≡ drop i (leftFrom dump from)
   pub low : from .level ≤ 15 → mark .level ≤ 15
 
 module _ (dump : List ℕ) (from : Mark) (elapsed₀ levels₀ : List ℕ) where
@@ -102,13 +102,13 @@ module _ (dump : List ℕ) (from : Mark) (elapsed₀ levels₀ : List ℕ) where
       }
 
   module _ (mark : Mark) (i : ℕ) (elapsed levels : List ℕ) (f : Filling dump from elapsed₀ levels₀ mark i elapsed levels) where
-    filling-turn : (s : Sample) (next : Mark) → i < length levels → leftOf dump mark ≡ s ∷ leftOf dump next
+    filling-turn : (s : Sample) (next : Mark) → i < length levels → leftFrom dump mark ≡ s ∷ leftFrom dump next
         → (mark .level ≤ 15 → next .level ≤ 15)
         → Filling dump from elapsed₀ levels₀ next (i + 1) (set elapsed i (s .elapsed)) (set levels i (s .level))
     filling-turn s next h e l =
-        let ss = leftOf dump from in
-        let d : drop i ss ≡ s ∷ leftOf dump next = sym (f .left) ∙ e in
-        let k : length ss - i ≡ suc (length (leftOf dump next)) = sym (length-drop i ss) ∙ ap length d in
+        let ss = leftFrom dump from in
+        let d : drop i ss ≡ s ∷ leftFrom dump next = sym (f .left) ∙ e in
+        let k : length ss - i ≡ suc (length (leftFrom dump next)) = sym (length-drop i ss) ∙ ap length d in
         let a = f .even in
         let b = f .long in
         record {
@@ -138,7 +138,7 @@ module _ (dump : List ℕ) (from : Mark) (elapsed₀ levels₀ : List ℕ) where
         (λ n. rw e (low-behind (mark .time) moved (moved .over) (m .low n)))
 
     -- The rows are full, or no sample is left.
-    filled : i ≡ min (length (leftOf dump from)) (length levels₀)
+    filled : i ≡ min (length (leftFrom dump from)) (length levels₀)
         → FillsRoom dump from elapsed₀ levels₀ (record { count = i; mark = mark }) elapsed levels
     filled e = record { count = e; times = f .times; bytes = f .bytes; left = f .left; low = f .low }
 
@@ -153,8 +153,8 @@ module _ (dump : List ℕ) (from : Mark) (elapsed₀ levels₀ : List ℕ) where
     filled-over h =
         let a = f .room in
         let b = f .some in
-        let k : length (leftOf dump from) - i ≡ 0 =
-        sym (length-drop i (leftOf dump from)) ∙ ap length (sym (f .left) ∙ left-over dump mark h) in
+        let k : length (leftFrom dump from) - i ≡ 0 =
+        sym (length-drop i (leftFrom dump from)) ∙ ap length (sym (f .left) ∙ left-over dump mark h) in
         filled (omega arith)
 
 -- Parts of rows that were filled, in the whole rows.
@@ -177,7 +177,7 @@ module _ (elapsed levels : List ℕ) (shorter room : ℕ) (a : shorter ≡ min (
         → FillsRoom dump m (take room elapsed) (take room levels) r elapsed′ levels′
         → Fills dump m elapsed levels r (elapsed′ ++ drop room elapsed) (levels′ ++ drop room levels)
     fills-back dump m elapsed′ levels′ r f =
-        let ss = leftOf dump m in
+        let ss = leftFrom dump m in
         let c : r .count ≡ min (length ss) room = f .count ∙ ap (min (length ss)) (sym room-levels) in
         let n : r .count ≤ room = omega arith in
         record {

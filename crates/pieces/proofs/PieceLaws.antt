@@ -17,7 +17,7 @@ use Rattle.dumps.specs.Samples.{Sample, momentsFrom, elapsedOf, levelsOf}
 use Rattle.dumps.proofs.SampleLaws.{Small, moments-low, spread-small, take-small}
 use Rattle.pieces.specs.declared.Mark.{Mark}
 use Rattle.pieces.specs.declared.Filled.{Filled}
-use Rattle.pieces.specs.Marks.{leftBy, leftOf}
+use Rattle.pieces.specs.Marks.{leftBy, leftFrom}
 use Rattle.pieces.specs.Promises.{Fills}
 
 -- Samples within the bounds give no refusal.
@@ -31,8 +31,8 @@ left-by true ss h = tt
 left-by false ss h = h
 
 -- Those that are left from a mark on are, if the mark has a level byte.
-pub left-small : (dump : List ℕ) (m : Mark) → m .level ≤ 15 → Small (leftOf dump m)
-unfolding leftOf
+pub left-small : (dump : List ℕ) (m : Mark) → m .level ≤ 15 → Small (leftFrom dump m)
+unfolding leftFrom
 left-small dump m h =
     let r = bodyAt dump Between true in
     let ws = wordsOf (drop (m .at) dump) in
@@ -41,8 +41,8 @@ left-small dump m h =
 
 -- So a replay takes as many of them as there are in a piece (Refusal numbers, 9 and 10).
 pub piece-taken : (dump : List ℕ) (m : Mark) (n : ℕ) (v : Verdict) → m .level ≤ 15
-    → limits.samplesOf 0 (elapsedOf (take n (leftOf dump m))) (levelsOf (take n (leftOf dump m))) v ≡ v
-piece-taken dump m n v h = small-taken 0 (take n (leftOf dump m)) v (take-small n (leftOf dump m) (left-small dump m h))
+    → limits.samplesOf 0 (elapsedOf (take n (leftFrom dump m))) (levelsOf (take n (leftFrom dump m))) v ≡ v
+piece-taken dump m n v h = small-taken 0 (take n (leftFrom dump m)) v (take-small n (leftFrom dump m) (left-small dump m h))
 
 map-length : (f : Sample → ℕ) (ss : List Sample) → length (map f ss) ≡ length ss
 map-length f [] = refl
@@ -51,13 +51,13 @@ map-length f (s ∷ ss) = rw (map-length f ss)
 -- What a piece has filled in of the rows.
 module _ (dump : List ℕ) (m : Mark) (elapsed levels : List ℕ) (r : Filled) (elapsed′ levels′ : List ℕ)
     (f : Fills dump m elapsed levels r elapsed′ levels′) where
-  count-length : (g : Sample → ℕ) → length (map g (take (r .count) (leftOf dump m))) ≡ r .count
+  count-length : (g : Sample → ℕ) → length (map g (take (r .count) (leftFrom dump m))) ≡ r .count
   count-length g =
       let c = f .count in
-      map-length g (take (r .count) (leftOf dump m)) ∙ length-take-le (r .count) (leftOf dump m) (omega arith)
+      map-length g (take (r .count) (leftFrom dump m)) ∙ length-take-le (r .count) (leftFrom dump m) (omega arith)
 
-  pub piece-times : take (r .count) elapsed′ ≡ elapsedOf (take (r .count) (leftOf dump m))
+  pub piece-times : take (r .count) elapsed′ ≡ elapsedOf (take (r .count) (leftFrom dump m))
   piece-times = ap (take (r .count)) (f .times) ∙ take-at _ _ (r .count) (count-length (λ (s : Sample). s .elapsed))
 
-  pub piece-bytes : take (r .count) levels′ ≡ levelsOf (take (r .count) (leftOf dump m))
+  pub piece-bytes : take (r .count) levels′ ≡ levelsOf (take (r .count) (leftFrom dump m))
   piece-bytes = ap (take (r .count)) (f .bytes) ∙ take-at _ _ (r .count) (count-length (λ (s : Sample). s .level))

@@ -12,7 +12,7 @@ use Rattle.wires.specs.Wires.{laid}
 use Rattle.wires.specs.Values.{levelOf}
 use Rattle.dumps.specs.Reading.{saysOf}
 use Rattle.dumps.specs.Defined.{bodyAt}
-use Rattle.dumps.specs.Samples.{momentsFrom, samplesFrom, samplesOf}
+use Rattle.dumps.specs.Samples.{momentsFrom, samplesFrom, samplesIn}
 use Rattle.headings.specs.declared.Heading.{Heading}
 use Rattle.headings.specs.Parts.{Defines}
 use Rattle.changes.specs.declared.Mode.{Mode}
@@ -21,7 +21,7 @@ use Rattle.changes.specs.declared.Change.{Change}
 use Rattle.changes.specs.declared.Change.the-variants.{Time, Value, Moves, Breaks}
 use Rattle.changes.specs.Parts.{placeOf, changeMeant}
 use Rattle.pieces.specs.declared.Mark.{Mark}
-use Rattle.pieces.specs.Marks.{leftOf}
+use Rattle.pieces.specs.Marks.{leftFrom}
 use Rattle.pieces.specs.Parts.{overMark}
 use Rattle.pieces.specs.Promises as promises
 use Rattle.pieces.proofs.Turns.{no-value, moment-time, moment-value, moment-moves, moment-breaks, moment-none, sample-time, sample-moves, sample-breaks, sample-none}
@@ -91,12 +91,12 @@ pub record Starting (dump : List ℕ) (start at on : ℕ) (mode : Mode) : Type 0
 
 -- Nothing is left where there are no samples.
 pub starts-over : (dump : List ℕ) (start : ℕ) {r : Mark} → r ≡ overMark
-    → samplesFrom (bodyAt dump place.Between false) (wordsOf (drop start dump)) ≡ [] → promises.Starts dump start r
-unfolding leftOf
+    → samplesFrom (bodyAt dump place.Between false) (wordsOf (drop start dump)) ≡ [] → promises.StartsAt dump start r
+unfolding leftFrom
 starts-over dump start h e = record { left = rw (h, e); low = rw h (omega arith) }
 
 pub starts-none : (dump : List ℕ) (start at on : ℕ) (mode : Mode) {r : Mark} → Starting dump start at on mode
-    → tokensFrom on (drop at dump) ≡ [] → r ≡ overMark → promises.Starts dump start r
+    → tokensFrom on (drop at dump) ≡ [] → r ≡ overMark → promises.StartsAt dump start r
 starts-none dump start at on mode m e h = starts-over dump start h (m .samples ∙ sample-none dump mode false at on e)
 
 module _ (dump : List ℕ) (start at on : ℕ) (mode : Mode) (m : Starting dump start at on mode)
@@ -114,28 +114,28 @@ module _ (dump : List ℕ) (start at on : ℕ) (mode : Mode) (m : Starting dump 
 
   -- The first time line opens a moment with all levels low.
   pub starts-time : (t : ℕ) → r ≡ Time t
-      → promises.Starts dump start (record { over = false; at = to; time = t; left = 0; level = 0 })
-  unfolding leftOf
+      → promises.StartsAt dump start (record { over = false; at = to; time = t; left = 0; level = 0 })
+  unfolding leftFrom
   starts-time t h = record { left = sym (m .samples ∙ sample-time dump mode false at on from to line f r e t h); low = omega arith }
 
-  pub starts-breaks : {k : Mark} → r ≡ Breaks → k ≡ overMark → promises.Starts dump start k
+  pub starts-breaks : {k : Mark} → r ≡ Breaks → k ≡ overMark → promises.StartsAt dump start k
   starts-breaks h k = starts-over dump start k (m .samples ∙ sample-breaks dump mode false at on from to line f r e h)
 
   -- No value stands before it.
-  pub starts-value : {k : Mark} (c marks : ℕ) → r ≡ Value c marks → promises.Starts dump start k
+  pub starts-value : {k : Mark} (c marks : ℕ) → r ≡ Value c marks → promises.StartsAt dump start k
   starts-value c marks h = absurd (true≢false (sym (no-value dump mode false at on from to line f r e c marks h)))
 
 -- Where the definitions are not over the dump has no samples.
 no-samples : (dump table : List ℕ) (h : Heading) (wrong : Bool) → Defines dump h table → h .over ≡ false → h .wrong ≡ wrong
-    → samplesOf dump ≡ []
+    → samplesIn dump ≡ []
 no-samples dump table h true d o w = d .wrong o w .1
 no-samples dump table h false d o w = d .short o w .1
 
 pub begins-over : (dump table : List ℕ) (h : Heading) {r : Mark} → Defines dump h table → h .over ≡ false → r ≡ overMark
     → promises.Begins dump r
-unfolding leftOf
+unfolding leftFrom
 begins-over dump table h d o e = record { left = rw e (sym (no-samples dump table h (h .wrong) d o refl)); low = rw e (omega arith) }
 
 pub begins-first : (dump table : List ℕ) (h : Heading) {r : Mark} → Defines dump h table → h .over ≡ true
-    → promises.Starts dump (h .at) r → promises.Begins dump r
+    → promises.StartsAt dump (h .at) r → promises.Begins dump r
 begins-first dump table h d o s = record { left = s .left ∙ sym (d .over o .1); low = s .low }

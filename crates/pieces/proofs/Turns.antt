@@ -17,7 +17,7 @@ use Rattle.sections.specs.Sections.{Spot, Says, moves, codes, names, defines, t
 use Rattle.wires.specs.Wires.{laid, marksOf}
 use Rattle.wires.specs.Times.{highestTime, timeOf}
 use Rattle.wires.specs.Values.{isValue, levelOf}
-use Rattle.dumps.specs.Reading.{Reading, hash, bodyBy, dumpedBy, saysOf}
+use Rattle.dumps.specs.Reading.{Known, hash, bodyBy, dumpedBy, saysOf}
 use Rattle.dumps.specs.Defined.{bodyAt}
 use Rattle.dumps.specs.Samples.{momentsFrom, samplesFrom, spread}
 use Rattle.dumps.proofs.SampleLaws.{moments-moves, samples-moves, moments-times, samples-times, moments-puts, moments-breaks, samples-breaks}
@@ -66,13 +66,13 @@ fit-skip : (begun b : Bool) → Fitting Skipped begun (skipBy b Body)
 fit-skip begun true = tt
 fit-skip begun false = tt
 
-fit-body : (time value : Bool) (r : Reading) (c : ℕ) (cs : List ℕ) → Fitting Between (r .begun) (bodyBy time value r c cs)
+fit-body : (time value : Bool) (r : Known) (c : ℕ) (cs : List ℕ) → Fitting Between (r .begun) (bodyBy time value r c cs)
 unfolding sectionSays
 fit-body true value r c cs = fit-time (r .begun) (leb (timeOf cs) highestTime) (timeOf cs)
 fit-body false true r c cs = fit-value Between (r .begun) (ltb 0 (marksOf (r .vars) cs)) c (marksOf (r .vars) cs)
 fit-body false false r c cs = fit-opens (r .begun) (keywordOf (c ∷ cs))
 
-fit-dumped : (value : Bool) (r : Reading) (c : ℕ) (cs : List ℕ) → Fitting Dumped (r .begun) (dumpedBy value r c cs)
+fit-dumped : (value : Bool) (r : Known) (c : ℕ) (cs : List ℕ) → Fitting Dumped (r .begun) (dumpedBy value r c cs)
 unfolding sectionSays
 fit-dumped true r c cs = fit-value Dumped (r .begun) (ltb 0 (marksOf (r .vars) cs)) c (marksOf (r .vars) cs)
 fit-dumped false r c cs = fit-end (r .begun) (isEnd (c ∷ cs)) _

@@ -16,7 +16,7 @@ leftBy false ss = ss
 
 -- The samples that are left: those of the moment whose time line ends at the mark, the time up to it being what is left of its gap, and of
 -- all later ones (2026-03, each time line makes one sample).
-unfoldable pub leftOf : List ℕ → Mark → List Sample
-leftOf dump m =
+unfoldable pub leftFrom : List ℕ → Mark → List Sample
+leftFrom dump m =
     leftBy (m .over)
     (spread (m .left) (m .level) (momentsFrom (bodyAt dump Between true) (wordsOf (drop (m .at) dump)) (m .time) (m .level)))

@@ -8,38 +8,38 @@ use Rattle.ground.specs.Numbers.{mostSamples}
 use Rattle.sections.specs.declared.Place.the-variants.{Between}
 use Rattle.tokens.specs.Tokens.{wordsOf}
 use Rattle.dumps.specs.Defined.{bodyAt}
-use Rattle.dumps.specs.Samples.{Moment, momentsFrom, samplesFrom, samplesOf, elapsedOf, levelsOf}
+use Rattle.dumps.specs.Samples.{Moment, momentsFrom, samplesFrom, samplesIn, elapsedOf, levelsOf}
 use Rattle.pieces.specs.declared.Mark.{Mark}
 use Rattle.pieces.specs.declared.Filled.{Filled}
 use Rattle.pieces.specs.declared.Moved.{Moved}
 use Rattle.pieces.specs.declared.quick.Taken.{Taken}
-use Rattle.pieces.specs.Marks.{leftOf}
+use Rattle.pieces.specs.Marks.{leftFrom}
 
 -- The mark at which a dump begins has all its samples left.
 pub record Begins (dump : List ℕ) (r : Mark) : Type 0 where
-  pub left : leftOf dump r ≡ samplesOf dump
+  pub left : leftFrom dump r ≡ samplesIn dump
   pub low : r .level ≤ 15
 
 -- One piece: as many samples as are left, as the shorter row holds and as a replay takes; the rows have them in order and are else as they
 -- were, and the mark has the rest left.
 pub record Fills (dump : List ℕ) (m : Mark) (elapsed levels : List ℕ) (r : Filled) (elapsed′ levels′ : List ℕ) : Type 0 where
-  pub count : r .count ≡ min (length (leftOf dump m)) (min (min (length elapsed) (length levels)) mostSamples)
-  pub times : elapsed′ ≡ elapsedOf (take (r .count) (leftOf dump m)) ++ drop (r .count) elapsed
-  pub bytes : levels′ ≡ levelsOf (take (r .count) (leftOf dump m)) ++ drop (r .count) levels
-  pub left : leftOf dump (r .mark) ≡ drop (r .count) (leftOf dump m)
+  pub count : r .count ≡ min (length (leftFrom dump m)) (min (min (length elapsed) (length levels)) mostSamples)
+  pub times : elapsed′ ≡ elapsedOf (take (r .count) (leftFrom dump m)) ++ drop (r .count) elapsed
+  pub bytes : levels′ ≡ levelsOf (take (r .count) (leftFrom dump m)) ++ drop (r .count) levels
+  pub left : leftFrom dump (r .mark) ≡ drop (r .count) (leftFrom dump m)
   pub low : m .level ≤ 15 → r .mark .level ≤ 15
 
 -- The same over rows of one length.
 pub record FillsRoom (dump : List ℕ) (m : Mark) (elapsed levels : List ℕ) (r : Filled) (elapsed′ levels′ : List ℕ) : Type 0 where
-  pub count : r .count ≡ min (length (leftOf dump m)) (length levels)
-  pub times : elapsed′ ≡ elapsedOf (take (r .count) (leftOf dump m)) ++ drop (r .count) elapsed
-  pub bytes : levels′ ≡ levelsOf (take (r .count) (leftOf dump m)) ++ drop (r .count) levels
-  pub left : leftOf dump (r .mark) ≡ drop (r .count) (leftOf dump m)
+  pub count : r .count ≡ min (length (leftFrom dump m)) (length levels)
+  pub times : elapsed′ ≡ elapsedOf (take (r .count) (leftFrom dump m)) ++ drop (r .count) elapsed
+  pub bytes : levels′ ≡ levelsOf (take (r .count) (leftFrom dump m)) ++ drop (r .count) levels
+  pub left : leftFrom dump (r .mark) ≡ drop (r .count) (leftFrom dump m)
   pub low : m .level ≤ 15 → r .mark .level ≤ 15
 
 -- The mark at the first time line from a place on, outside every section.
-pub record Starts (dump : List ℕ) (from : ℕ) (r : Mark) : Type 0 where
-  pub left : leftOf dump r ≡ samplesFrom (bodyAt dump Between false) (wordsOf (drop from dump))
+pub record StartsAt (dump : List ℕ) (from : ℕ) (r : Mark) : Type 0 where
+  pub left : leftFrom dump r ≡ samplesFrom (bodyAt dump Between false) (wordsOf (drop from dump))
   pub low : r .level ≤ 15
 
 -- The moments behind a place: the open one with its levels, and those from the next time line on.

@@ -12,7 +12,7 @@ ghost use lib.ListN.{length};
 ghost use Rattle.dumps.specs.Defined.{varsOf};
 ghost use Rattle.headings.specs.Parts.{Tabled};
 ghost use Rattle.pieces.specs.Parts.{overMark, behindBy};
-ghost use Rattle.pieces.specs.Promises.{Begins, Fills, FillsRoom, Moves, Starts};
+ghost use Rattle.pieces.specs.Promises.{Begins, Fills, FillsRoom, Moves, StartsAt};
 
 // The most samples of a piece.
 pub const MOST: usize = 65_536;
@@ -70,7 +70,7 @@ fn first_time(dump: &[u8], table: &[u8], from: usize, line: usize) -> Mark
     requires { ⌜ Tabled (varsOf (now dump)) (now table) ⌝ }
     requires { ⌜ «from» ≤ length (now dump) ⌝ }
     requires { ⌜ line ≤ «from» ⌝ }
-    ensures { λ r. ⌜ Starts (now (dump .entry)) «from» r ⌝ }
+    ensures { λ r. ⌜ StartsAt (now (dump .entry)) «from» r ⌝ }
 {
     let mut at = from;
     let mut on = line;

@@ -11,7 +11,7 @@ use Rattle.levels.specs.Level.{sclOf, sdaOf}
 use Rattle.refusals.specs.Refusals.{powerOf}
 use Rattle.sample.specs.Run.{Part, runOf, answersOf}
 use Rattle.power.specs.Power.{atPower}
-use Rattle.dumps.specs.Samples.{Sample, samplesOf, elapsedOf, levelsOf}
+use Rattle.dumps.specs.Samples.{Sample, samplesIn, elapsedOf, levelsOf}
 use Rattle.dumps.specs.Faults.{dumpVerdict}
 
 -- SCL is high, the dump shows SDA high, and the twin pulls it low (2026-03, reports every sample).
@@ -39,7 +39,7 @@ partAfterAll ss p = runOf (elapsedOf ss) (levelsOf ss) p
 
 -- The places of a whole dump, replayed from power-up on over all its samples (2026-03, the report).
 unfoldable pub placesOf : ℕ → ℕ → ℕ → List ℕ → List ℕ → List ℕ
-placesOf part select stored dump array = placesIn 0 (samplesOf dump) (atPower part select stored array)
+placesOf part select stored dump array = placesIn 0 (samplesIn dump) (atPower part select stored array)
 
 -- Part, select and stored byte are refused first, then the array's size, then the dump (2026-03, are refused first).
 abbrev pub openBy : Verdict → Bool → Verdict → Verdict

@@ -7,7 +7,7 @@ use lib.ListN.{length, take, drop, length-take, length-drop}
 use lib.Seq.{take-at, length-take-le}
 use Rattle.dumps.specs.Samples.{Sample, elapsedOf, levelsOf}
 use Rattle.sample.specs.Run.{answersOf}
-use Rattle.pieces.specs.Marks.{leftOf}
+use Rattle.pieces.specs.Marks.{leftFrom}
 use Rattle.places.specs.Places.{placesFrom}
 use Rattle.texts.specs.Laying.{Starts}
 use Rattle.listing.specs.Listing.{placesText}
@@ -21,10 +21,10 @@ use Rattle.replaying.specs.Promises.{Tells}
 module _ (dump : List ℕ) (s : Stand) (array levels answers : List ℕ) (r : Played) (array′ levels′ answers′ : List ℕ)
     (g : Stands dump s array) (h : length levels ≡ 4096) (w : Plays dump s array levels answers r array′ levels′ answers′) where
   piece : List Sample
-  piece = take (r .count) (leftOf dump (s .mark))
+  piece = take (r .count) (leftFrom dump (s .mark))
 
   -- A piece has no more samples than are left, and than there is room for.
-  pub count-left : r .count ≤ length (leftOf dump (s .mark))
+  pub count-left : r .count ≤ length (leftFrom dump (s .mark))
   count-left = omega (arith, w .count)
 
   pub count-room : r .count ≤ 4096
@@ -47,7 +47,7 @@ module _ (dump : List ℕ) (s : Stand) (array levels answers : List ℕ) (r : Pl
 
   piece-length : length piece ≡ r .count
   unfolding piece
-  piece-length = length-take (r .count) (leftOf dump (s .mark)) ∙ omega (arith, count-left)
+  piece-length = length-take (r .count) (leftFrom dump (s .mark)) ∙ omega (arith, count-left)
 
   levels-taken : take (r .count) levels′ ≡ levelsOf piece
   unfolding piece
@@ -73,6 +73,6 @@ module _ (dump : List ℕ) (s : Stand) (array levels answers : List ℕ) (r : Pl
 
 -- Behind a piece that is not empty fewer samples are left.
 pub told-less : (dump : List ℕ) (s : Stand) (array out : List ℕ) (r : Told) (array′ out′ : List ℕ) → Tells dump s array out r array′ out′
-    → (r .count ≡ 0 → ⊥) → length (leftOf dump (r .stand .mark)) < length (leftOf dump (s .mark))
+    → (r .count ≡ 0 → ⊥) → length (leftFrom dump (r .stand .mark)) < length (leftFrom dump (s .mark))
 told-less dump s array out r array′ out′ w n =
-    rw (w .left, length-drop (r .count) (leftOf dump (s .mark))) (omega (arith, w .count))
+    rw (w .left, length-drop (r .count) (leftFrom dump (s .mark))) (omega (arith, w .count))

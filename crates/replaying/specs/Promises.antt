@@ -5,9 +5,9 @@ use mathlib.Core.Path.{_≡_}
 use lib.ListN.{length, take, drop}
 use Rattle.ground.specs.Verdict.{accepted, meant}
 use Rattle.power.specs.Power.{atPower}
-use Rattle.dumps.specs.Samples.{samplesOf}
+use Rattle.dumps.specs.Samples.{samplesIn}
 use Rattle.tidying.specs.Shown.{textGives}
-use Rattle.pieces.specs.Marks.{leftOf}
+use Rattle.pieces.specs.Marks.{leftFrom}
 use Rattle.places.specs.Places.{placesIn, partAfterAll}
 use Rattle.texts.specs.Laying.{Starts}
 use Rattle.disagreements.specs.declared.Stand.{Stand}
@@ -20,7 +20,7 @@ use Rattle.replaying.specs.Shown.{startVerdict, givenBy}
 -- A dump that may be replayed: the part at power-up with the image in its array, before the first of the samples.
 pub record Ready (part select stored : ℕ) (image dump : List ℕ) (s : Stand) (array : List ℕ) : Type 0 where
   pub powered : partOf s array ≡ atPower part select stored (givenBy (textGives part image))
-  pub left : leftOf dump (s .mark) ≡ samplesOf dump
+  pub left : leftFrom dump (s .mark) ≡ samplesIn dump
   pub next : s .next ≡ 0
   pub stands : Stands dump s array
 
@@ -31,9 +31,9 @@ pub record Readies (part select stored : ℕ) (image dump : List ℕ) (r : Opene
 
 -- One piece told: a line for each of its places, and the stand behind it.
 pub record Tells (dump : List ℕ) (s : Stand) (array out : List ℕ) (r : Told) (array′ out′ : List ℕ) : Type 0 where
-  pub count : r .count ≡ min (length (leftOf dump (s .mark))) 4096
-  pub text : Starts (placesText (placesIn (s .next) (take (r .count) (leftOf dump (s .mark))) (partOf s array))) out (r .length) out′
-  pub part : partOf (r .stand) array′ ≡ partAfterAll (take (r .count) (leftOf dump (s .mark))) (partOf s array)
-  pub left : leftOf dump (r .stand .mark) ≡ drop (r .count) (leftOf dump (s .mark))
+  pub count : r .count ≡ min (length (leftFrom dump (s .mark))) 4096
+  pub text : Starts (placesText (placesIn (s .next) (take (r .count) (leftFrom dump (s .mark))) (partOf s array))) out (r .length) out′
+  pub part : partOf (r .stand) array′ ≡ partAfterAll (take (r .count) (leftFrom dump (s .mark))) (partOf s array)
+  pub left : leftFrom dump (r .stand .mark) ≡ drop (r .count) (leftFrom dump (s .mark))
   pub next : r .stand .next ≡ s .next + r .count
   pub stands : Stands dump (r .stand) array′

@@ -15,7 +15,7 @@ use Rattle.tokens.specs.Tokens.{sameWord}
 use Rattle.tokens.proofs.TokenLaws.{equal-same}
 use Rattle.words.specs.Words.{decimalBase, figureBy, figureOf, allFigures, numeral, figuresValue}
 use Rattle.words.proofs.WordLaws.{within-low, digit-figure, digit-fails, digit-holds}
-use Rattle.wires.specs.Wires.{Var, sclName, sdaName, wpName, vccName, wireOf, bitBy, laid, marked, marksBy, marksOf, namedOf, hasWire}
+use Rattle.wires.specs.Wires.{Var, sclName, sdaName, wpName, vccName, weightOf, bitBy, laid, marked, marksBy, marksOf, namedOf, hasWire}
 use Rattle.wires.specs.Times.{noTime, timeBy, timeOf}
 
 -- A bit is 0 or 1 if the value is.
@@ -43,15 +43,15 @@ marks-by false wire marks h = h
 
 pub marks-small : (vs : List Var) (code : List ℕ) → marksOf vs code ≤ 31
 marks-small [] code = omega arith
-marks-small (v ∷ vs) code = marks-by (sameWord code (v .code)) (wireOf (v .name)) (marksOf vs code) (marks-small vs code)
+marks-small (v ∷ vs) code = marks-by (sameWord code (v .code)) (weightOf (v .name)) (marksOf vs code) (marks-small vs code)
 
 pub named-small : (vs : List Var) → namedOf vs ≤ 15
 named-small [] = omega arith
-named-small (v ∷ vs) = laid-small 1 (wireOf (v .name)) (namedOf vs) (omega arith)
+named-small (v ∷ vs) = laid-small 1 (weightOf (v .name)) (namedOf vs) (omega arith)
 
 -- A wire counts for its own code, and for no other.
 module _ (v : Var) (vs : List Var) where
-  pub marks-own : marksOf (v ∷ vs) (v .code) ≡ marked (marksOf vs (v .code)) (wireOf (v .name))
+  pub marks-own : marksOf (v ∷ vs) (v .code) ≡ marked (marksOf vs (v .code)) (weightOf (v .name))
   marks-own = rw (equal-same (v .code))
 
   pub marks-other : (code : List ℕ) → sameWord code (v .code) ≡ false → marksOf (v ∷ vs) code ≡ marksOf vs code
@@ -59,26 +59,26 @@ module _ (v : Var) (vs : List Var) where
 
 -- A name by the first of the four that it is.
 module _ (name : List ℕ) where
-  pub wire-scl : sameWord name sclName ≡ true → 1 ≡ wireOf name
-  unfolding wireOf
+  pub wire-scl : sameWord name sclName ≡ true → 1 ≡ weightOf name
+  unfolding weightOf
   wire-scl a = rw a
 
   module _ (a : sameWord name sclName ≡ false) where
-    pub wire-sda : sameWord name sdaName ≡ true → 2 ≡ wireOf name
-    unfolding wireOf
+    pub wire-sda : sameWord name sdaName ≡ true → 2 ≡ weightOf name
+    unfolding weightOf
     wire-sda b = rw (a, b)
 
     module _ (b : sameWord name sdaName ≡ false) where
-      pub wire-wp : sameWord name wpName ≡ true → 4 ≡ wireOf name
-      unfolding wireOf
+      pub wire-wp : sameWord name wpName ≡ true → 4 ≡ weightOf name
+      unfolding weightOf
       wire-wp c = rw (a, b, c)
 
-      pub wire-vcc : sameWord name wpName ≡ false → sameWord name vccName ≡ true → 8 ≡ wireOf name
-      unfolding wireOf
+      pub wire-vcc : sameWord name wpName ≡ false → sameWord name vccName ≡ true → 8 ≡ weightOf name
+      unfolding weightOf
       wire-vcc c d = rw (a, b, c, d)
 
-      pub wire-none : sameWord name wpName ≡ false → sameWord name vccName ≡ false → 0 ≡ wireOf name
-      unfolding wireOf
+      pub wire-none : sameWord name wpName ≡ false → sameWord name vccName ≡ false → 0 ≡ weightOf name
+      unfolding weightOf
       wire-none c d = rw (a, b, c, d)
 
 -- Whether a wire is among some, by whether it is wanted.

@@ -37,8 +37,8 @@ wireBy false false false true = 8
 wireBy false false false false = 0
 
 -- The weight of the wire with a name (2026-03, wires).
-unfoldable pub wireOf : List ℕ → ℕ
-wireOf name = wireBy (sameWord name sclName) (sameWord name sdaName) (sameWord name wpName) (sameWord name vccName)
+unfoldable pub weightOf : List ℕ → ℕ
+weightOf name = wireBy (sameWord name sclName) (sameWord name sdaName) (sameWord name wpName) (sameWord name vccName)
 
 -- The weights of all four wires together.
 abbrev pub allWires : ℕ
@@ -73,12 +73,12 @@ marksBy false wire marks = marks
 -- The marks of a code, by the wires that are declared, the latest first; 0 for a code that was not declared (2026-03, wires).
 abbrev pub marksOf : List Var → List ℕ → ℕ
 marksOf [] code = 0
-marksOf (v ∷ vs) code = marksBy (sameWord code (v .code)) (wireOf (v .name)) (marksOf vs code)
+marksOf (v ∷ vs) code = marksBy (sameWord code (v .code)) (weightOf (v .name)) (marksOf vs code)
 
 -- The weights of the wanted wires that are declared (2026-03, refusal 21).
 abbrev pub namedOf : List Var → ℕ
 namedOf [] = 0
-namedOf (v ∷ vs) = laid 1 (wireOf (v .name)) (namedOf vs)
+namedOf (v ∷ vs) = laid 1 (weightOf (v .name)) (namedOf vs)
 
 -- Whether a wire is wanted and among those of some weights (2026-03, refusal 21: named twice).
 unfoldable pub hasWire : ℕ → ℕ → Bool

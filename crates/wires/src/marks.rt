@@ -5,7 +5,7 @@ ghost use Prim.Native.Nat.{_<_, _≤_};
 ghost use lib.Dec.{eqb};
 ghost use mathlib.Core.Bool.{Bool};
 ghost use Rattle.ground.specs.Cases.{odd};
-ghost use Rattle.wires.specs.Wires.{wireOf, bitBy, laid, marked, hasWire};
+ghost use Rattle.wires.specs.Wires.{weightOf, bitBy, laid, marked, hasWire};
 
 pub const ALL: u8 = 15;
 
@@ -21,7 +21,7 @@ const VCC: u8 = 8;
 
 // The mark of the wanted wire that has a name; 0 where none has it.
 pub fn wire_of(name: &[u8]) -> u8
-    ensures { λ r. ⌜ r ≡ wireOf (now (name .entry)) ⌝ }
+    ensures { λ r. ⌜ r ≡ weightOf (now (name .entry)) ⌝ }
     ensures { λ r. ⌜ r ≤ 8 ⌝ }
 {
     if same(name, b"SCL") {

@@ -3,7 +3,7 @@ use mathlib.Core.Path.{_∙_}
 use native.Mathlib.Omega.{arith}
 use borrow.Author.Needs.{needs}
 use lib.ListN.{length}
-use Rattle.pieces.specs.Marks.{leftOf}
+use Rattle.pieces.specs.Marks.{leftFrom}
 use Rattle.disagreements.proofs.Turns.{front-bytes, front-said, left-less, Turning, turning-starts, turn-asks, turn, turn-ends}
 use Rattle.disagreements.proofs.play_on.Statement.{statement}
 use Rattle.disagreements.proofs.play_on.Tie as tie
@@ -14,7 +14,7 @@ Inv-loop dump array₀ places₀ elapsed₀ levels₀ answers₀ stand₀ found�
 
 abbrev μ-loop : tie.MeasureT-loop
 μ-loop dump array₀ places₀ elapsed₀ levels₀ answers₀ stand₀ found₀ array places elapsed levels answers stand found =
-    length (leftOf dump (stand .mark))
+    length (leftFrom dump (stand .mark))
 
 loop-holds : tie.Need-loop-holds Inv-loop μ-loop
 loop-holds c = turning-starts _ _ _ _ _ _ _ (c .before .before .before .before .before .before .pre .0)

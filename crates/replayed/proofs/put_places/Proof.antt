@@ -2,7 +2,7 @@
 use mathlib.Core.Path.{_≡_, refl, _∙_}
 use borrow.Author.Needs.{needs}
 use lib.ListN.{length}
-use Rattle.pieces.specs.Marks.{leftOf}
+use Rattle.pieces.specs.Marks.{leftFrom}
 use Rattle.disagreements.specs.Promises.{Stands}
 use Rattle.replaying.proofs.Telling.{told-less}
 use Rattle.replayed.proofs.put_places.Statement.{statement}
@@ -14,7 +14,7 @@ Inv-loop dump array₀ elapsed₀ levels₀ answers₀ out₀ stand₀ array ela
 
 abbrev μ-loop : tie.MeasureT-loop
 μ-loop dump array₀ elapsed₀ levels₀ answers₀ out₀ stand₀ array elapsed levels answers out stand =
-    length (leftOf dump (stand .mark))
+    length (leftFrom dump (stand .mark))
 
 elapsed-room-requires : tie.Need-elapsed-room-requires Inv-loop μ-loop
 elapsed-room-requires c κs = search needs
