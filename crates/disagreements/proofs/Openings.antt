@@ -48,7 +48,7 @@ module _ (part select stored : ℕ) (dump array : List ℕ) where
   unfolding openVerdict
   size-refuses n e h = rw (e, ne-eqb (length array) (kindOf part .size) h)
 
-  dump-decides : (n : ℕ) → powerOf part select stored ≡ accepted n → length array ≡ kindOf part .size
+  pub dump-decides : (n : ℕ) → powerOf part select stored ≡ accepted n → length array ≡ kindOf part .size
       → openVerdict part select stored dump array ≡ dumpVerdict dump
   unfolding openVerdict
   dump-decides n e h = rw (e, eq-eqb (length array) (kindOf part .size) h)

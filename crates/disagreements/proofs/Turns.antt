@@ -28,7 +28,7 @@ use Rattle.disagreements.proofs.Piecewise.{elapsed-length, levels-lengt
 -- A piece filled into rows.
 module _ (dump : List ℕ) (m : Mark) (elapsed levels : List ℕ) (r : Filled) (elapsed′ levels′ : List ℕ)
     (f : Fills dump m elapsed levels r elapsed′ levels′) where
-  piece-length : length (take (r .count) (leftFrom dump m)) ≡ r .count
+  pub piece-length : length (take (r .count) (leftFrom dump m)) ≡ r .count
   piece-length = let c = f .count in length-take-le (r .count) (leftFrom dump m) (omega arith)
 
   -- The rows hold it.

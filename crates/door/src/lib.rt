@@ -46,7 +46,7 @@ pub extern "C" fn qillampu_replay_dump(
     }
     telling::tell(
         reply,
-        disagreements::report(part, select, stored, dump, array, places),
+        at_once::report(part, select, stored, dump, array, places),
     );
     telling::DONE
 }

@@ -180,16 +180,15 @@ module _ (dump : List ℕ) (from : ℕ) (inside : from + 12 ≤ length dump) whe
           said = rw w (time-said dump ds (getD dump from 0) value h (omega arith) t);
         }
 
-    pub time-packed : {b : Bool} → getD dump from 0 ≡ hash → b ≡ blank (getD dump (from + 1 + i) 0) → b ≡ true → 0 < i → value < noTime
-        → SeesTime dump from (value * 16 + (i + 1))
-    time-packed h e f some fits =
-        let q : (value * 16 + (i + 1)) / 16 ≡ value = omega arith in
-        let m : from + (value * 16 + (i + 1)) % 16 ≡ from + 1 + i = omega arith in
-        record { seen = λ z line small. rw (q, m) (sees-time line small h e f some fits) }
+    pub time-seen : {b : Bool} → getD dump from 0 ≡ hash → b ≡ blank (getD dump (from + 1 + i) 0) → b ≡ true → 0 < i → value < noTime
+        → SeesTime dump from (record { time = value; length = i + 1 })
+    time-seen h e f some fits =
+        let m : from + (i + 1) ≡ from + 1 + i = omega arith in
+        record { none = λ z. absurd (omega arith); seen = λ z line small. rw m (sees-time line small h e f some fits) }
 
--- Nothing is said by 0.
-pub time-unseen : (dump : List ℕ) (from : ℕ) → SeesTime dump from 0
-time-unseen dump from = record { seen = λ z. absurd (omega arith) }
+-- Nothing is said by length 0, or by marks of 0.
+pub time-unseen : (dump : List ℕ) (from : ℕ) → SeesTime dump from (record { time = 0; length = 0 })
+time-unseen dump from = record { none = λ z. refl; seen = λ z. absurd (omega arith) }
 
 pub marks-unseen : (dump : List ℕ) (from : ℕ) → SeesMarks dump from 0
 marks-unseen dump from = record { seen = λ z. absurd (omega arith) }

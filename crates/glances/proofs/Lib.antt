@@ -1,2 +1,2 @@
 pub mod GlanceLaws
-pub mod Seen
+pub mod SeenPast

@@ -18,6 +18,12 @@ pub struct Past {
     pub line: usize,
 }
 
+// A time that is seen, and its token's length; length 0 and time 0 where none is.
+pub struct Seen {
+    pub time: u64,
+    pub length: usize,
+}
+
 const SPACE: u8 = 0x20;
 
 pub const HASH: u8 = b'#';
@@ -59,9 +65,8 @@ fn ends(character: u8) -> bool
     is_blank(character)
 }
 
-// The time whose hash is at `from`, 16 times, and the length of its token; or 0. A digit is told by its difference to the character 0, in one
-// comparison.
-pub fn time_at(dump: &[u8], from: usize) -> u64
+// The time whose hash is at `from`, and the length of its token. A digit is told by its difference to the character 0, in one comparison.
+pub fn time_at(dump: &[u8], from: usize) -> Seen
     requires { ⌜ from + 12 ≤ length (now dump) ⌝ }
     requires { ⌜ getD (now dump) from 0 ≡ hash ⌝ }
     ensures { λ r. ⌜ SeesTime (now (dump .entry)) from r ⌝ }
@@ -76,16 +81,19 @@ pub fn time_at(dump: &[u8], from: usize) -> u64
             if ends(character) {
                 if i > 0 {
                     if value < times::NO_TIME {
-                        return value * 16 + (i as u64 + 1);
+                        return Seen {
+                            time: value,
+                            length: i + 1,
+                        };
                     }
                 }
             }
-            return 0;
+            return Seen { time: 0, length: 0 };
         }
         value = value * 10 + digit;
         i += 1;
     }
-    0
+    Seen { time: 0, length: 0 }
 }
 
 // The marks of the value of two characters at `from`, the first of which is 0 or 1, with a blank behind it; or 0.

@@ -21,8 +21,9 @@ use Rattle.changes.specs.declared.Mode.the-variants.{Between}
 use Rattle.changes.specs.declared.Change.the-variants.{Time, Value}
 use Rattle.changes.specs.Parts.{changeMeant}
 use Rattle.glances.specs.declared.Past.{Past}
+use Rattle.glances.specs.declared.Seen.{Seen}
 use Rattle.glances.specs.Parts.{Sees, SeesTime, Skims}
-use Rattle.glances.proofs.Seen.{seen-time, seen-further}
+use Rattle.glances.proofs.SeenPast.{seen-time, seen-further}
 use Rattle.judging.specs.declared.Heard.{Heard}
 use Rattle.judging.specs.declared.Plain.{Plain}
 use Rattle.judging.specs.Parts.{mostCounted, takenBy}
@@ -129,17 +130,20 @@ module _ (dump : List ℕ) (from given at line lines time samples : ℕ) (p : Pa
               (means-time t ∙ sym (rw b (s .said))) refl 0 noFault _ (late-none t h) (joined-none noFault on) (taken-plain t d);
         }
 
-  -- A time and its token's length as they are seen.
-  module _ (past : Past) (r : ℕ) (k : Skims dump at line past) (m : SeesTime dump (past .at) r) (above : time < r / 16) where
-    sees : Sees dump at line (past .at + r % 16) (past .line) (times (r / 16))
-    sees = seen-time dump at line past k r m (λ (e : r ≡ 0). omega arith)
+  -- A time above the one before, and its token's length, as they are seen.
+  module _ (past : Past) (r : Seen) (k : Skims dump at line past) (m : SeesTime dump (past .at) r) (above : time < r .time) where
+    sees : Sees dump at line (past .at + r .length) (past .line) (times (r .time))
+    sees = seen-time dump at line past k r m (λ (e : r .length ≡ 0). omega (arith, m .none e))
 
-    pub passing-further : at < past .at + r % 16
-    passing-further = seen-further dump at line (past .at + r % 16) (past .line) sees
+    pub passing-inside : past .at + r .length ≤ length dump
+    passing-inside = sees .word .inside
 
-    pub passing-time : r / 16 - time ≤ 100000
-        → Passing dump from given (past .at + r % 16) (past .line) (lines + 1) (r / 16) (samples + 1)
-    passing-time d = passing-seen (past .at + r % 16) (past .line) (r / 16) sees above d
+    pub passing-further : at < past .at + r .length
+    passing-further = seen-further dump at line (past .at + r .length) (past .line) sees
+
+    pub passing-time : r .time - time ≤ 100000
+        → Passing dump from given (past .at + r .length) (past .line) (lines + 1) (r .time) (samples + 1)
+    passing-time d = passing-seen (past .at + r .length) (past .line) (r .time) sees above d
 
 -- Where there is no fault it does not matter where it would stand.
 pub kept-other : (dump : List ℕ) (at line : ℕ) (f g : Fault) (mode : Mode) (heard : Heard) → Kept dump at line f mode heard

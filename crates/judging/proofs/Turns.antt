@@ -7,7 +7,7 @@ use native.Mathlib.Omega.{arith}
 use lib.Dec.{eqb, ltb, leb}
 use lib.ListN.{length, take, drop}
 use borrow.Author.Tests.{ltb-false, leb-false, lt-ltb, eq-eqb}
-use Rattle.ground.specs.Verdict.{meant}
+use Rattle.ground.specs.Verdict.{meant, accepted}
 use Rattle.ground.specs.declared.Reply.{Reply}
 use Rattle.sections.specs.Sections.{Says}
 use Rattle.tokens.specs.Tokens.{Token, tokensFrom, wordsOf, lastLine}
@@ -19,7 +19,7 @@ use Rattle.dumps.specs.Reading.{saysOf, afterBy, isBetween}
 use Rattle.dumps.specs.Defined.{varsOf, bodyAt}
 use Rattle.dumps.specs.Samples.{repeatsOf, samplesIn}
 use Rattle.dumps.specs.Faults as dumped
-use Rattle.dumps.specs.Faults.{faultIf, timeFault, heardBy, faultBy, endBy, endFault, note, faultsFrom, faultsOf, verdictBy}
+use Rattle.dumps.specs.Faults.{faultIf, timeFault, heardBy, faultBy, endBy, endFault, note, faultsFrom, faultsOf, verdictBy, dumpVerdict}
 use Rattle.dumps.proofs.Taken.{faults-token}
 use Rattle.dumps.proofs.Silent.{silent-faults}
 use Rattle.headings.specs.declared.faults.Fault.{Fault}
@@ -35,7 +35,7 @@ use Rattle.judging.specs.declared.Heard.{Heard}
 use Rattle.judging.specs.Promises.{Judges}
 use Rattle.judging.specs.Parts.{heardOf, gapBy, takenBy, laterBy, laterOf}
 use Rattle.sections.specs.declared.Stage.the-variants.{Body}
-use Rattle.judging.specs.Kept.{readingAt, Kept}
+use Rattle.judging.specs.Kept.{readingAt, Kept, noFault}
 use Rattle.judging.proofs.Kept.{joined-clear, judged}
 
 -- A time line without a fault is above the one before, so the samples stay fewer than the characters read and the time together.
@@ -205,3 +205,14 @@ judged-end dump at line fault mode heard k t n last first reply p l q v =
     let w = joined-clear fault n last (ap (λ (f : Fault). f .number) (sym q) ∙ z) .0 in
     let e = rw (words-none dump at line t) at (k .samples w) in
     omega arith) v
+
+-- Where neither was a fault before nor is one at the end, the dump is accepted.
+pub accepted-end : (dump : List ℕ) (at line : ℕ) (mode : Mode) (heard : Heard) → Kept dump at line noFault mode heard
+    → tokensFrom line (drop at dump) ≡ []
+    → endBy false (isBetween (placeOf mode)) (ltb (heard .lines) 2 && not (eqb (heard .given) allWires)) ≡ 0
+    → dumpVerdict dump ≡ accepted (length (samplesIn dump))
+unfolding dumpVerdict note
+accepted-end dump at line mode heard k t e =
+    let m : endFault (readingAt dump mode heard) (heardOf heard) ≡ 0 =
+    sym (end-number dump mode (ltb 0 (heard .lines)) (heardOf heard)) ∙ e in
+    k .verdict (length (samplesIn dump)) ∙ rw (t, m)

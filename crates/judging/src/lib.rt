@@ -1,5 +1,5 @@
 // Judges a dump: how many samples it has, or its first fault.
-mod ends;
+pub mod ends;
 mod gaps;
 
 use changes::Change;
@@ -26,11 +26,11 @@ ghost use Rattle.judging.specs.Parts.{mostCounted, takenBy};
 ghost use Rattle.judging.specs.Kept.{Kept, KeptOn, noFault};
 
 // The time lines and values so far: how many time lines, the latest time, the wires that have a value, and the samples.
-struct Heard {
-    lines: usize,
-    time: u64,
-    given: u8,
-    samples: usize,
+pub struct Heard {
+    pub lines: usize,
+    pub time: u64,
+    pub given: u8,
+    pub samples: usize,
 }
 
 // Half of the character `0`, and of `1`.
@@ -117,14 +117,14 @@ fn pass_plain(dump: &[u8], table: &[u8], from: usize, on: usize, heard: Heard) -
                 return plain_at(at, line, lines, time, heard.given, samples);
             }
             let seen = glances::time_at(dump, begins);
-            let now = seen / 16;
+            let now = seen.time;
             if now <= time {
                 return plain_at(at, line, lines, time, heard.given, samples);
             }
             if now - time > gaps::MOST_ELAPSED {
                 return plain_at(at, line, lines, time, heard.given, samples);
             }
-            at = begins + (seen % 16) as usize;
+            at = begins + seen.length;
             line = past.line;
             lines += 1;
             time = now;
@@ -212,7 +212,7 @@ fn judge_body(dump: &[u8], table: &[u8], heading: Heading) -> Reply
 }
 
 // One time line more; its samples are counted as long as there is no fault.
-fn take_time(heard: Heard, time: u64, sound: bool) -> Heard
+pub fn take_time(heard: Heard, time: u64, sound: bool) -> Heard
     requires { ⌜ heard .lines ≤ 9223372036854775808 ⌝ }
     requires { ⌜ (sound ≡ true → heard .samples ≤ mostCounted) ⌝ }
     ensures { λ r. ⌜ r ≡ takenBy sound heard time ⌝ }

@@ -17,11 +17,11 @@ use Rattle.pieces.specs.declared.Mark.{Mark}
 use Rattle.pieces.specs.declared.Moved.{Moved}
 use Rattle.pieces.specs.declared.Filled.{Filled}
 use Rattle.pieces.specs.Marks.{leftFrom}
-use Rattle.pieces.specs.Parts.{behindBy}
+use Rattle.pieces.specs.Parts.{behindBy, Filling}
 use Rattle.pieces.specs.Promises.{Moves, Fills, FillsRoom, laterBy}
 
 -- A dump that is over has no samples left.
-left-over : (dump : List ℕ) (m : Mark) → m .over ≡ true → leftFrom dump m ≡ []
+pub left-over : (dump : List ℕ) (m : Mark) → m .over ≡ true → leftFrom dump m ≡ []
 unfolding leftFrom
 left-over dump m h = rw h
 
@@ -73,18 +73,6 @@ row-turn f [] (y ∷ ys) i s rest e h =
     let z : _≡_ {A = ℕ} 0 1 = cc in absurd (omega arith)
 row-turn f (x ∷ xs) (y ∷ ys) zero s rest e h = let g : x ≡ s = cc in rw g
 row-turn f (x ∷ xs) (y ∷ ys) (suc i) s rest e h = ap (λ (zs : List ℕ). f x ∷ zs) (row-turn f xs ys i s rest e (omega arith))
-
--- So many samples filled in.
-pub record Filling (dump : List ℕ) (from : Mark) (elapsed₀ levels₀ : List ℕ) (mark : Mark) (i : ℕ) (elapsed levels : List ℕ) : Type 0 where
-  pub room : i ≤ length levels₀
-  pub some : i ≤ length (leftFrom dump from)
-  pub even : length elapsed₀ ≡ length levels₀
-  pub wide : length elapsed ≡ length elapsed₀
-  pub long : length levels ≡ length levels₀
-  pub times : elapsed ≡ elapsedOf (take i (leftFrom dump from)) ++ drop i elapsed₀
-  pub bytes : levels ≡ levelsOf (take i (leftFrom dump from)) ++ drop i levels₀
-  pub left : leftFrom dump mark ≡ drop i (leftFrom dump from)
-  pub low : from .level ≤ 15 → mark .level ≤ 15
 
 module _ (dump : List ℕ) (from : Mark) (elapsed₀ levels₀ : List ℕ) where
   pub filling-none : length elapsed₀ ≡ length levels₀ → Filling dump from elapsed₀ levels₀ from 0 elapsed₀ levels₀

@@ -77,8 +77,8 @@ module _ (dump : List ℕ) (start level at on : ℕ) (mode : Mode) (levels : ℕ
       record { moments = λ time. m .moments time ∙ moment-breaks dump mode true at on from to line f r e time levels h; low = m .low }
 
 -- The last moment ends with the dump.
-pub moves-none : (dump : List ℕ) (start level at on : ℕ) (mode : Mode) (levels : ℕ) {at′ : ℕ} → Moving dump start level at on mode levels
-    → tokensFrom on (drop at dump) ≡ [] → promises.Moves dump start level (record { over = true; at = at′; time = 0; level = levels })
+pub moves-none : (dump : List ℕ) (start level at on : ℕ) (mode : Mode) (levels : ℕ) {at′ time′ : ℕ} → Moving dump start level at on mode levels
+    → tokensFrom on (drop at dump) ≡ [] → promises.Moves dump start level (record { over = true; at = at′; time = time′; level = levels })
 moves-none dump start level at on mode levels m e =
     record { moments = λ time. m .moments time ∙ moment-none dump mode true at on e time levels; low = m .low }
 

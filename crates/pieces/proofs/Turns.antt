@@ -113,6 +113,10 @@ module _ (dump : List ℕ) (mode : Mode) (begun : Bool) (at line from to on : �
   unfolding changeMeant
   means-breaks h = rw h
 
+  -- A time line stands outside every section.
+  pub time-between : (t : ℕ) → r ≡ Time t → mode ≡ Between
+  time-between t h = fitting (means-time t h)
+
   -- Before the first time line there is no value.
   pub no-value : (c marks : ℕ) → r ≡ Value c marks → begun ≡ true
   no-value c marks h = fitting (means-value c marks h)

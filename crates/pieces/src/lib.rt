@@ -36,11 +36,11 @@ pub struct Filled {
 }
 
 // A moment's levels, and the time line behind it, if there is one.
-struct Moved {
-    over: bool,
-    at: usize,
-    time: u64,
-    level: u8,
+pub struct Moved {
+    pub over: bool,
+    pub at: usize,
+    pub time: u64,
+    pub level: u8,
 }
 
 fn lesser(a: usize, b: usize) -> usize
@@ -199,7 +199,7 @@ fn take_rest(dump: &[u8], table: &[u8], from: usize, level: u8) -> Moved
 }
 
 // The mark behind a moment.
-fn behind(time: u64, moved: Moved) -> Mark
+pub fn behind(time: u64, moved: Moved) -> Mark
     ensures { λ r. ⌜ r ≡ behindBy (moved .over) time moved ⌝ }
 {
     if moved.over {

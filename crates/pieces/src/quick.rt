@@ -58,13 +58,13 @@ pub fn take_plain(dump: &[u8], table: &[u8], from: usize, level: u8) -> Taken
                 return left(at, levels);
             }
             let seen = glances::time_at(dump, begins);
-            if seen == 0 {
+            if seen.length == 0 {
                 return left(at, levels);
             }
             return Taken {
                 closed: true,
-                at: begins + (seen % 16) as usize,
-                time: seen / 16,
+                at: begins + seen.length,
+                time: seen.time,
                 level: levels,
             };
         }

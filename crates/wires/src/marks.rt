@@ -4,8 +4,7 @@ ghost use mathlib.Core.Path.{_≡_};
 ghost use Prim.Native.Nat.{_<_, _≤_};
 ghost use lib.Dec.{eqb};
 ghost use mathlib.Core.Bool.{Bool};
-ghost use Rattle.ground.specs.Cases.{odd};
-ghost use Rattle.wires.specs.Wires.{weightOf, bitBy, laid, marked, hasWire};
+ghost use Rattle.wires.specs.Wires.{weightOf, laid, marked, hasWire};
 
 pub const ALL: u8 = 15;
 
@@ -39,28 +38,17 @@ pub fn wire_of(name: &[u8]) -> u8
     0
 }
 
-// A bit: the value, 0 or 1, if the lowest of the marks is set, else the lowest bit as it was.
-fn bit(marks: u8, value: u8, old: u8) -> u8
-    requires { ⌜ value ≤ 1 ⌝ }
-    ensures { λ r. ⌜ r ≡ bitBy (odd marks) value old ⌝ }
-    ensures { λ r. ⌜ r ≤ 1 ⌝ }
-{
-    if marks % 2 == 1 {
-        return value;
-    }
-    old % 2
-}
-
 // A level byte with a value, 0 or 1, laid over the bits that the marks name.
 pub fn lay(value: u8, marks: u8, old: u8) -> u8
     requires { ⌜ value ≤ 1 ⌝ }
     ensures { λ r. ⌜ r ≡ laid value marks old ⌝ }
     ensures { λ r. ⌜ r ≤ 15 ⌝ }
 {
-    bit(marks, value, old)
-        + 2 * bit(marks / 2, value, old / 2)
-        + 4 * bit(marks / 4, value, old / 4)
-        + 8 * bit(marks / 8, value, old / 8)
+    let both = old | marks;
+    if value == 1 {
+        return both % 16;
+    }
+    (both ^ marks) % 16
 }
 
 // The marks of a code that one more wire is declared with.

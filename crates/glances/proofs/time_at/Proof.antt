@@ -2,7 +2,7 @@
 use Prim.Native.Nat.{_+_, _-_}
 use native.Mathlib.Omega.{arith}
 use borrow.Author.Needs.{needs}
-use Rattle.glances.proofs.GlanceLaws.{Reads, digit-by, power-small, reads-none, reads-more, time-packed, time-unseen}
+use Rattle.glances.proofs.GlanceLaws.{Reads, digit-by, power-small, reads-none, reads-more, time-seen, time-unseen}
 use Rattle.glances.proofs.time_at.Statement.{statement}
 use Rattle.glances.proofs.time_at.Tie as tie
 
@@ -35,18 +35,12 @@ wrapping-sub-u64-requires c κs = search needs
 ends-requires : tie.Need-ends-requires Inv-loop μ-loop
 ends-requires c κs = search needs
 
-mul-result : tie.Need-mul-result Inv-loop μ-loop
-mul-result c = search needs
-
-add-result : tie.Need-add-result Inv-loop μ-loop
-add-result c = search needs
-
-add-result-2 : tie.Need-add-result-2 Inv-loop μ-loop
-add-result-2 c = search needs
+add-t16 : tie.Need-add-t16 Inv-loop μ-loop
+add-t16 c = search needs
 
 returns : tie.Need-returns Inv-loop μ-loop
 returns c =
-    time-packed _ _ (c .before .before .before .before .before .before .before .before .before .before .pre .0) _ (c .before .before .before .before .before .before .before .before .loop .i) (c .before .before .before .before .before .before .before .before .loop .inv) (omega arith) (c .before .before .before .before .before .before .before .before .before .before .pre .1) (c .before .before .before .ends .ensures) (c .before .before .if2 .taken)
+    time-seen _ _ (c .before .before .before .before .before .before .before .before .before .before .pre .0) _ (c .before .before .before .before .before .before .before .before .loop .i) (c .before .before .before .before .before .before .before .before .loop .inv) (omega arith) (c .before .before .before .before .before .before .before .before .before .before .pre .1) (c .before .before .before .ends .ensures) (c .before .before .if2 .taken)
     (omega arith) (omega arith)
 
 returns-2 : tie.Need-returns-2 Inv-loop μ-loop
@@ -98,9 +92,7 @@ time-at-spec =
     cast-wrapping-sub-u64
     wrapping-sub-u64-requires
     ends-requires
-    mul-result
-    add-result
-    add-result-2
+    add-t16
     returns
     returns-2
     returns-3

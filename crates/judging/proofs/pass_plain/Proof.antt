@@ -3,8 +3,8 @@ use Prim.Native.Nat.{_-_}
 use native.Mathlib.Omega.{arith}
 use borrow.Author.Needs.{needs}
 use lib.ListN.{length}
-use Rattle.glances.proofs.Seen.{seen-value}
-use Rattle.judging.proofs.PlainLaws.{Passing, passing-small, passing-value, passing-further, passing-time, passed}
+use Rattle.glances.proofs.SeenPast.{seen-value}
+use Rattle.judging.proofs.PlainLaws.{Passing, passing-small, passing-value, passing-inside, passing-further, passing-time, passed}
 use Rattle.judging.proofs.pass_plain.Statement.{statement}
 use Rattle.judging.proofs.pass_plain.Tie as tie
 
@@ -77,21 +77,24 @@ returns-5 : tie.Need-returns-5 Inv-loop μ-loop
 returns-5 c = passed _ _ _ _ _ _ _ _ (c .before .before .before .before .before .before .before .before .before .loop .inv) _ (c .plain-at5 .ensures)
 
 add-at-2 : tie.Need-add-at-2 Inv-loop μ-loop
-add-at-2 c = omega (arith, c .before .before .before .before .before .before .past-blank .ensures .near, c .before .before .before .before .before .before .before .if1 .left, c .before .before .before .before .before .before .before .before .before .before .before .good .0 .1)
+add-at-2 c =
+    let start = c .before .before .before .before .before .before .before .before .before .before .before .before in
+    let i = passing-inside _ _ _ _ _ _ _ _ (c .before .before .before .before .before .before .before .before .before .loop .inv) _ _ (c .before .before .before .before .before .before .before .past-blank .ensures) (c .before .before .before .time-at .ensures) (c .before .before .if5 .left) in
+    omega (arith, i, start .good .0 .1)
 
 add-lines : tie.Need-add-lines Inv-loop μ-loop
-add-lines c = omega (arith, passing-small _ _ _ _ _ _ _ _ (c .before .before .before .before .before .before .before .before .loop .inv) (omega (arith, c .before .before .before .before .before .before .before .before .before .before .before .good .0 .1)) .0)
+add-lines c = omega (arith, passing-small _ _ _ _ _ _ _ _ (c .before .before .before .before .before .before .before .before .before .loop .inv) (omega (arith, c .before .before .before .before .before .before .before .before .before .before .before .before .good .0 .1)) .0)
 
 add-samples : tie.Need-add-samples Inv-loop μ-loop
-add-samples c = omega (arith, passing-small _ _ _ _ _ _ _ _ (c .before .before .before .before .before .before .before .before .loop .inv) (omega (arith, c .before .before .before .before .before .before .before .before .before .before .before .good .0 .1)) .1)
+add-samples c = omega (arith, passing-small _ _ _ _ _ _ _ _ (c .before .before .before .before .before .before .before .before .before .loop .inv) (omega (arith, c .before .before .before .before .before .before .before .before .before .before .before .before .good .0 .1)) .1)
 
 loop-less-2 : tie.Need-loop-less-2 Inv-loop μ-loop
 loop-less-2 c =
-    let f = passing-further _ _ _ _ _ _ _ _ (c .before .before .before .before .before .before .before .before .loop .inv) _ _ (c .before .before .before .before .before .before .past-blank .ensures) (c .before .before .time-at .ensures) (c .before .if5 .left) in
-    omega (arith, f, c .before .before .before .before .before .before .before .if1 .left)
+    let f = passing-further _ _ _ _ _ _ _ _ (c .before .before .before .before .before .before .before .before .before .loop .inv) _ _ (c .before .before .before .before .before .before .before .past-blank .ensures) (c .before .before .before .time-at .ensures) (c .before .before .if5 .left) in
+    omega (arith, f, c .before .before .before .before .before .before .before .before .if1 .left)
 
 loop-again-2 : tie.Need-loop-again-2 Inv-loop μ-loop
-loop-again-2 c = passing-time _ _ _ _ _ _ _ _ (c .before .before .before .before .before .before .before .before .loop .inv) _ _ (c .before .before .before .before .before .before .past-blank .ensures) (c .before .before .time-at .ensures) (c .before .if5 .left) (c .if6 .left)
+loop-again-2 c = passing-time _ _ _ _ _ _ _ _ (c .before .before .before .before .before .before .before .before .before .loop .inv) _ _ (c .before .before .before .before .before .before .before .past-blank .ensures) (c .before .before .before .time-at .ensures) (c .before .before .if5 .left) (c .before .if6 .left)
 
 pub pass-plain-spec : {M : Type 1} → statement M
 pass-plain-spec =

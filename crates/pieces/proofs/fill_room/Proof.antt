@@ -3,7 +3,8 @@
 use Prim.Native.Nat.{_-_}
 use borrow.Author.Needs.{needs}
 use lib.ListN.{length}
-use Rattle.pieces.proofs.Filling.{filling-none, filling-far, filling-near, filled-full, filled-over, Filling}
+use Rattle.pieces.specs.Parts.{Filling}
+use Rattle.pieces.proofs.Filling.{filling-none, filling-far, filling-near, filled-full, filled-over}
 use Rattle.pieces.proofs.fill_room.Statement.{statement}
 use Rattle.pieces.proofs.fill_room.Tie as tie
 

@@ -5,7 +5,7 @@ use native.Mathlib.Omega.{arith}
 use borrow.Author.Needs.{needs}
 use lib.ListN.{length}
 use Rattle.changes.specs.declared.Mode.the-variants.{Between}
-use Rattle.glances.proofs.Seen.{seen-value, seen-time}
+use Rattle.glances.proofs.SeenPast.{seen-value, seen-time}
 use Rattle.pieces.proofs.Reading.{Moving, moving-first}
 use Rattle.pieces.proofs.Plain.{level-plain, plain-left, plain-value, plain-time}
 use Rattle.pieces.proofs.quick.take_plain.Statement.{statement}
@@ -72,13 +72,16 @@ left-requires-4 : tie.Need-left-requires-4 Inv-loop μ-loop
 left-requires-4 c κs = search needs
 
 returns-4 : tie.Need-returns-4 Inv-loop μ-loop
-returns-4 c = plain-left _ _ _ _ _ (c .before .before .before .before .before .before .before .before .loop .inv) _ (c .left4 .ensures)
+returns-4 c = plain-left _ _ _ _ _ (c .before .before .before .before .before .before .before .before .before .loop .inv) _ (c .left4 .ensures)
 
-add-t22 : tie.Need-add-t22 Inv-loop μ-loop
-add-t22 c = search needs
+add-t20 : tie.Need-add-t20 Inv-loop μ-loop
+add-t20 c =
+    let start = c .before .before .before .before .before .before .before .before .before .before .before .before in
+    let s = seen-time _ _ _ _ (c .before .before .before .before .before .before .before .past-blank .ensures) _ (c .before .before .before .time-at .ensures) (c .before .if5 .left) in
+    omega (arith, s .word .inside, start .good .0 .1)
 
 returns-5 : tie.Need-returns-5 Inv-loop μ-loop
-returns-5 c = plain-time _ _ _ _ _ (c .before .before .before .before .before .before .before .loop .inv) _ _ _ (seen-time _ _ _ _ (c .before .before .before .before .before .past-blank .ensures) _ (c .before .time-at .ensures) (c .if5 .left))
+returns-5 c = plain-time _ _ _ _ _ (c .before .before .before .before .before .before .before .before .before .loop .inv) _ _ _ (seen-time _ _ _ _ (c .before .before .before .before .before .before .before .past-blank .ensures) _ (c .before .before .before .time-at .ensures) (c .before .if5 .left))
 
 pub take-plain-spec : {M : Type 1} → statement M
 take-plain-spec =
@@ -104,5 +107,5 @@ take-plain-spec =
     time-at-requires
     left-requires-4
     returns-4
-    add-t22
+    add-t20
     returns-5)

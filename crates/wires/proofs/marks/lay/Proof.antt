@@ -1,63 +1,14 @@
--- `wires::marks::lay` meets its contract: four bits of 0 or 1 fit. Assumes nothing.
-use borrow.Author.Needs.{needs}
-use Rattle.wires.specs.Wires.{laid}
+-- `wires::marks::lay` meets its contract. Assumes nothing.
+use native.Mathlib.Omega.{arith}
+use Rattle.wires.proofs.LaidBits.{laid-set, laid-clear}
 use Rattle.wires.proofs.marks.lay.Statement.{statement}
 use Rattle.wires.proofs.marks.lay.Tie as tie
 
-bit-requires : tie.Need-bit-requires
-bit-requires c κs = search needs
-
-bit-requires-2 : tie.Need-bit-requires-2
-bit-requires-2 c κs = search needs
-
-mul-result : tie.Need-mul-result
-mul-result c = search needs
-
-add-result : tie.Need-add-result
-add-result c = search needs
-
-bit-requires-3 : tie.Need-bit-requires-3
-bit-requires-3 c κs = search needs
-
-mul-result-2 : tie.Need-mul-result-2
-mul-result-2 c = search needs
-
-add-result-2 : tie.Need-add-result-2
-add-result-2 c = search needs
-
-bit-requires-4 : tie.Need-bit-requires-4
-bit-requires-4 c κs = search needs
-
-mul-result-3 : tie.Need-mul-result-3
-mul-result-3 c = search needs
-
-add-result-3 : tie.Need-add-result-3
-add-result-3 c = search needs
-
 returns : tie.Need-returns
-unfolding laid
-returns c = (
-  rw (
-    c .before .before .before .bit .ensures .0,
-    c .before .before .bit2 .ensures .0,
-    c .before .bit3 .ensures .0,
-    c .bit4 .ensures .0,
-  ),
-  search needs,
-)
+returns c = (laid-set _ _ _ (c .if1 .taken), omega arith)
+
+returns-2 : tie.Need-returns-2
+returns-2 c = (laid-clear _ _ _ (c .before .pre) (c .if1 .left), omega arith)
 
 pub lay-spec : {M : Type 1} → statement M
-lay-spec =
-    tie.close
-    (tie.spec
-    bit-requires
-    bit-requires-2
-    mul-result
-    add-result
-    bit-requires-3
-    mul-result-2
-    add-result-2
-    bit-requires-4
-    mul-result-3
-    add-result-3
-    returns)
+lay-spec = tie.close (tie.spec returns returns-2)

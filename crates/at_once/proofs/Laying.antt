@@ -1,0 +1,48 @@
+-- Laws of laying the first places of a room over a row, one after the other. Assumes nothing.
+use Prim.Native.Nat.{ℕ, zero, suc, _+_, _≤_, _<_, min}
+use mathlib.Core.Bool.{true, false, true≢false}
+use mathlib.Core.List.{List, [], _∷_, _++_}
+use mathlib.Core.Path.{_≡_, refl, ap, sym, _∙_}
+use native.Mathlib.Numerals.{add-one}
+use native.Mathlib.Omega.{arith}
+use lib.ListN.{length, take, drop, getD, set, length-set}
+use Rattle.at_once.specs.Promises.{LaysOut}
+
+-- A laying that has come to an index.
+pub record Laying (room row₀ : List ℕ) (wanted : ℕ) (row : List ℕ) (i : ℕ) : Type 0 where
+  pub few : i ≤ wanted
+  pub long : length row ≡ length row₀
+  pub said : row ≡ take i room ++ drop i row₀
+
+pub laying-starts : (room row : List ℕ) (wanted : ℕ) → Laying room row wanted row 0
+laying-starts room row wanted = record { few = omega arith; long = refl; said = refl }
+
+-- One place more.
+one-more : (room row : List ℕ) (i : ℕ) → i < length room → i < length row
+    → set (take i room ++ drop i row) i (getD room i 0) ≡ take (suc i) room ++ drop (suc i) row
+one-more [] row i h k = absurd (omega arith)
+one-more (x ∷ xs) [] i h k = absurd (omega arith)
+one-more (x ∷ xs) (y ∷ ys) zero h k = refl
+one-more (x ∷ xs) (y ∷ ys) (suc i) h k = ap (λ (zs : List ℕ). x ∷ zs) (one-more xs ys i (omega arith) (omega arith))
+
+module _ (room row₀ : List ℕ) (found wanted : ℕ) (w : wanted ≡ min found (length row₀)) (h : wanted ≤ length room) (row : List ℕ) (i : ℕ)
+    (g : Laying room row₀ wanted row i) where
+  pub laying-on : i < wanted → Laying room row₀ wanted (set row i (getD room i 0)) (i + 1)
+  laying-on k =
+      let e : row ≡ take i room ++ drop i row₀ = g .said in
+      record {
+        few = omega arith;
+        long = length-set row i (getD room i 0) ∙ g .long;
+        said = rw (e, add-one) (one-more room row₀ i (omega arith) (omega arith));
+      }
+
+  pub laying-ends : wanted ≤ i → LaysOut room found row₀ row true
+  laying-ends k =
+      let f = g .few in
+      let e : i ≡ min found (length row₀) = omega arith in
+      record { held = λ d. omega arith; said = λ d. rw e at (g .said); kept = λ d. absurd (true≢false d) }
+
+-- A room that is too small is left alone.
+pub lays-nothing : (room : List ℕ) (found : ℕ) (row : List ℕ) → LaysOut room found row row false
+lays-nothing room found row =
+    record { held = λ d. absurd (true≢false (sym d)); said = λ d. absurd (true≢false (sym d)); kept = λ d. refl }

@@ -1,0 +1,4 @@
+pub mod Passing
+pub mod Laying
+pub mod Copies
+pub mod Reporting
