@@ -1,6 +1,6 @@
 -- Laws of filling rows from a track on: one sample more, and where the filling ends. Assumes nothing.
 use Prim.Native.Nat.{ℕ, _+_, _-_, _≤_, _<_}
-use mathlib.Core.Bool.{Bool, true, false, not, true≢false}
+use mathlib.Core.Bool.{Bool, true, false, true≢false}
 use mathlib.Core.List.{List}
 use mathlib.Core.Path.{_≡_, refl, sym, _∙_}
 use native.Mathlib.Omega.{arith}
@@ -21,10 +21,6 @@ use Rattle.one_reading.specs.Parts.{Closes, PassesOn}
 pub record Reading (dump : List ℕ) (from : Track) (elapsed₀ levels₀ : List ℕ) (track : Track) (i : ℕ) (elapsed levels : List ℕ) : Type 0 where
   pub filling : Filling dump (from .mark) elapsed₀ levels₀ (track .mark) i elapsed levels
   pub sound : Sound dump track
-
-pub sound-so : (b : Bool) → not b ≡ false → b ≡ true
-sound-so true e = refl
-sound-so false e = absurd (true≢false e)
 
 -- A track on the way is sound.
 pub going-sound : (dump : List ℕ) (t : Track) → t .mark .over ≡ false → Going dump t → Sound dump t

@@ -5,7 +5,8 @@ use mathlib.Core.Path.{refl}
 use native.Mathlib.Omega.{arith}
 use borrow.Author.Needs.{needs}
 use lib.ListN.{length}
-use Rattle.one_reading.proofs.Pieces.{Reading, reading-first, reading-repeat, reading-passed, reading-closed, reading-even, reads-full, reads-over, reads-wrong, sound-so}
+use Rattle.ground.proofs.Tests.{not-failed}
+use Rattle.one_reading.proofs.Pieces.{Reading, reading-first, reading-repeat, reading-passed, reading-closed, reading-even, reads-full, reads-over, reads-wrong}
 use Rattle.one_reading.proofs.fill.Statement.{statement}
 use Rattle.one_reading.proofs.fill.Tie as tie
 
@@ -110,7 +111,7 @@ loop-less-2 c =
 
 loop-again-2 : tie.Need-loop-again-2 Inv-loop μ-loop
 loop-again-2 c =
-    reading-closed _ _ _ _ _ _ _ _ (reading-passed _ _ _ _ _ _ _ _ (c .before .before .before .before .before .before .before .before .before .before .before .before .before .before .before .before .before .before .before .loop .inv) _ _ _ (c .before .before .before .before .before .before .before .before .before .before .before .before .pass .ensures)) _ _ (c .before .before .before .before .before .before .if3 .left) (c .before .before .before .before .before .before .before .before .before .before .before .before .pass .ensures .over) (c .before .before .before .before .before .before .before .before .before .before .before .before .pass .ensures .near) (c .before .before .before .before .before .hear .ensures) (sound-so _ (c .before .before .before .if4 .left))
+    reading-closed _ _ _ _ _ _ _ _ (reading-passed _ _ _ _ _ _ _ _ (c .before .before .before .before .before .before .before .before .before .before .before .before .before .before .before .before .before .before .before .loop .inv) _ _ _ (c .before .before .before .before .before .before .before .before .before .before .before .before .pass .ensures)) _ _ (c .before .before .before .before .before .before .if3 .left) (c .before .before .before .before .before .before .before .before .before .before .before .before .pass .ensures .over) (c .before .before .before .before .before .before .before .before .before .before .before .before .pass .ensures .near) (c .before .before .before .before .before .hear .ensures) (not-failed _ (c .before .before .before .if4 .left))
     (c .before .behind .ensures)
 
 same-length-7 : tie.Need-same-length-7 Inv-loop μ-loop
