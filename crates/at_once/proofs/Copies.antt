@@ -15,7 +15,8 @@ use Rattle.dumps.specs.Samples.{samplesIn}
 use Rattle.places.specs.Places.{placesIn, laidOver}
 use Rattle.one_reading.specs.declared.Track.{Track}
 use Rattle.at_once.specs.declared.Ended.{Ended}
-use Rattle.at_once.specs.Promises.{partWith, Ready, Whole, Passes, LaysOut, Tries}
+use Rattle.at_once.specs.Promises.{partWith, Ready, Whole, Passes, Tries}
+use Rattle.places.specs.Parts.{LaysOut}
 
 -- All of a row copied over another of its length is that row.
 pub copied : (xs ys : List ℕ) → length ys ≡ length xs → take (length xs) xs ++ drop (length xs) ys ≡ xs

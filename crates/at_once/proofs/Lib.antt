@@ -1,4 +1,3 @@
 pub mod Passing
-pub mod Laying
 pub mod Copies
 pub mod Reporting

@@ -1,9 +1,9 @@
 -- What the steps of a report in one reading promise each other; the report itself promises what the one in two readings does (Reports).
-use Prim.Native.Nat.{ℕ, min, _≤_}
-use mathlib.Core.Bool.{Bool, true, false}
-use mathlib.Core.List.{List, _++_}
+use Prim.Native.Nat.{ℕ, _≤_}
+use mathlib.Core.Bool.{true, false}
+use mathlib.Core.List.{List}
 use mathlib.Core.Path.{_≡_}
-use lib.ListN.{length, take, drop}
+use lib.ListN.{length}
 use Rattle.ground.specs.Verdict.{accepted}
 use Rattle.ground.specs.declared.Reply.the-variants.{Accepted}
 use Rattle.part.specs.declared.state.State.{State}
@@ -42,12 +42,6 @@ pub record Whole (dump : List ℕ) (p : Part) (row : List ℕ) (found : ℕ) (ar
 -- A reading: if it ended sound, the whole dump was replayed; else nothing is said of what it left.
 pub record Passes (dump : List ℕ) (p : Part) (row : List ℕ) (r : Ended) (array′ row′ : List ℕ) : Type 0 where
   pub whole : r .sound ≡ true → Whole dump p row (r .found) array′ row′
-
--- The first places of a room laid over a row, if the room holds all that the row wants; else the row is as it was.
-pub record LaysOut (room : List ℕ) (found : ℕ) (row row′ : List ℕ) (done : Bool) : Type 0 where
-  pub held : done ≡ true → min found (length row) ≤ length room
-  pub said : done ≡ true → row′ ≡ take (min found (length row)) room ++ drop (min found (length row)) row
-  pub kept : done ≡ false → row′ ≡ row
 
 -- A reading that leaves array and row as they were unless it ended sound.
 pub record Tries (dump : List ℕ) (s : State) (array row : List ℕ) (r : Ended) (array′ row′ : List ℕ) : Type 0 where

@@ -6,11 +6,10 @@ use one_reading::Track;
 use part::state::State;
 ghost use mathlib.Core.Path.{_≡_};
 ghost use mathlib.Core.Bool.{false};
-ghost use Prim.Native.Nat.{min};
 ghost use lib.ListN.{length};
 ghost use Rattle.ranges.specs.Fit.{Fit};
 ghost use Rattle.disagreements.specs.Promises.{Reports};
-ghost use Rattle.at_once.specs.Promises.{partWith, Ready, Passes, LaysOut, Tries, TriesReport};
+ghost use Rattle.at_once.specs.Promises.{partWith, Ready, Passes, Tries, TriesReport};
 
 // The samples of a piece: rows of this length are quickly cleared.
 pub const PIECE: usize = 1024;
@@ -97,32 +96,6 @@ fn play_through(
     }
 }
 
-// The lesser of two numbers.
-fn lesser(a: usize, b: usize) -> usize
-    ensures { λ r. ⌜ r ≡ min a b ⌝ }
-{
-    if a < b {
-        return a;
-    }
-    b
-}
-
-// Lays the first places of a room over a row, if the room holds all that the row wants.
-fn lay_out(room: &[u64], found: usize, places: &mut [u64]) -> bool
-    ensures { λ r. ⌜ LaysOut (now (room .entry)) found (now (places .entry)) (now (places .exit)) r ⌝ }
-{
-    let wanted = lesser(found, places.len());
-    if wanted > room.len() {
-        return false;
-    }
-    let mut i = 0;
-    while i < wanted {
-        places[i] = room[i];
-        i += 1;
-    }
-    true
-}
-
 // Plays a dump through on a copy of the array, and brings copy and places out if all of it was sound.
 fn on_copy(
     dump: &[u8],
@@ -156,122 +129,24 @@ fn on_copy(
     if !ended.sound {
         return undone();
     }
-    if !lay_out(room, ended.found, places) {
+    if !places::lay_out(room, ended.found, places) {
         return undone();
     }
     bytes::copy(copy, array);
     ended
 }
 
-// On a copy of a smaller part's array.
-fn on_small(
-    dump: &[u8],
-    table: &[u8],
-    from: Track,
-    powered: State,
-    array: &mut [u8],
-    room: &mut [u64],
-    places: &mut [u64],
-) -> Ended
-    requires { ⌜ Ready (now dump) (now table) «from» powered (now array) ⌝ }
-    requires { ⌜ length (now array) ≡ 4096 ⌝ }
-    ensures { λ r. ⌜ Tries (now (dump .entry)) powered (now (array .entry)) (now (places .entry)) r (now (array .exit)) (now (places .exit)) ⌝ }
-{
-    let mut copy = [0u8; SMALL];
-    on_copy(dump, table, from, powered, array, &mut copy, room, places)
-}
-
-// On a copy of a larger part's array.
-fn on_large(
-    dump: &[u8],
-    table: &[u8],
-    from: Track,
-    powered: State,
-    array: &mut [u8],
-    room: &mut [u64],
-    places: &mut [u64],
-) -> Ended
-    requires { ⌜ Ready (now dump) (now table) «from» powered (now array) ⌝ }
-    requires { ⌜ length (now array) ≡ 16384 ⌝ }
-    ensures { λ r. ⌜ Tries (now (dump .entry)) powered (now (array .entry)) (now (places .entry)) r (now (array .exit)) (now (places .exit)) ⌝ }
-{
-    let mut copy = [0u8; LARGE];
-    on_copy(dump, table, from, powered, array, &mut copy, room, places)
-}
-
-// On a copy of the array, whichever part's it is.
-fn by_size(
-    dump: &[u8],
-    table: &[u8],
-    from: Track,
-    powered: State,
-    array: &mut [u8],
-    room: &mut [u64],
-    places: &mut [u64],
-) -> Ended
-    requires { ⌜ Ready (now dump) (now table) «from» powered (now array) ⌝ }
-    ensures { λ r. ⌜ Tries (now (dump .entry)) powered (now (array .entry)) (now (places .entry)) r (now (array .exit)) (now (places .exit)) ⌝ }
-{
-    if array.len() == SMALL {
-        return on_small(dump, table, from, powered, array, room, places);
-    }
-    if array.len() == LARGE {
-        return on_large(dump, table, from, powered, array, room, places);
-    }
-    undone()
-}
-
-// With room for few places.
-fn with_few(
-    dump: &[u8],
-    table: &[u8],
-    from: Track,
-    powered: State,
-    array: &mut [u8],
-    places: &mut [u64],
-) -> Ended
-    requires { ⌜ Ready (now dump) (now table) «from» powered (now array) ⌝ }
-    ensures { λ r. ⌜ Tries (now (dump .entry)) powered (now (array .entry)) (now (places .entry)) r (now (array .exit)) (now (places .exit)) ⌝ }
-{
-    let mut room = [0u64; FEW];
-    by_size(dump, table, from, powered, array, &mut room, places)
-}
-
-// With room for more places.
-fn with_more(
-    dump: &[u8],
-    table: &[u8],
-    from: Track,
-    powered: State,
-    array: &mut [u8],
-    places: &mut [u64],
-) -> Ended
-    requires { ⌜ Ready (now dump) (now table) «from» powered (now array) ⌝ }
-    ensures { λ r. ⌜ Tries (now (dump .entry)) powered (now (array .entry)) (now (places .entry)) r (now (array .exit)) (now (places .exit)) ⌝ }
-{
-    let mut room = [0u64; MORE];
-    by_size(dump, table, from, powered, array, &mut room, places)
-}
-
-// With room for many places.
-fn with_many(
-    dump: &[u8],
-    table: &[u8],
-    from: Track,
-    powered: State,
-    array: &mut [u8],
-    places: &mut [u64],
-) -> Ended
-    requires { ⌜ Ready (now dump) (now table) «from» powered (now array) ⌝ }
-    ensures { λ r. ⌜ Tries (now (dump .entry)) powered (now (array .entry)) (now (places .entry)) r (now (array .exit)) (now (places .exit)) ⌝ }
-{
-    let mut room = [0u64; MANY];
-    by_size(dump, table, from, powered, array, &mut room, places)
-}
-
 // Reads a dump once for a part that is powered up.
-fn read_once(dump: &[u8], powered: State, array: &mut [u8], places: &mut [u64]) -> Ended
+fn read_once(
+    dump: &[u8],
+    powered: State,
+    array: &mut [u8],
+    copy: &mut [u8],
+    room: &mut [u64],
+    places: &mut [u64],
+) -> Ended
     requires { ⌜ Fit (partWith powered (now array)) ⌝ }
+    requires { ⌜ length (now copy) ≡ length (now array) ⌝ }
     ensures { λ r. ⌜ Tries (now (dump .entry)) powered (now (array .entry)) (now (places .entry)) r (now (array .exit)) (now (places .exit)) ⌝ }
 {
     let mut table = [0u8; 256];
@@ -281,13 +156,7 @@ fn read_once(dump: &[u8], powered: State, array: &mut [u8], places: &mut [u64]) 
         return undone();
     }
     let track = started.track;
-    if dump.len() <= SHORT {
-        return with_few(dump, &table, track, powered, array, places);
-    }
-    if dump.len() <= LONGER {
-        return with_more(dump, &table, track, powered, array, places);
-    }
-    with_many(dump, &table, track, powered, array, places)
+    on_copy(dump, &table, track, powered, array, copy, room, places)
 }
 
 // Powers the part up, and reads the dump once if part and array are accepted.
@@ -297,8 +166,11 @@ fn try_once(
     stored: u8,
     dump: &[u8],
     array: &mut [u8],
+    copy: &mut [u8],
+    room: &mut [u64],
     places: &mut [u64],
 ) -> Ended
+    requires { ⌜ length (now copy) ≡ length (now array) ⌝ }
     ensures { λ r. ⌜ TriesReport part select stored (now (dump .entry)) (now (array .entry)) (now (places .entry)) r (now (array .exit)) (now (places .exit)) ⌝ }
 {
     let powered = twin::power_up(part, select, stored);
@@ -311,7 +183,127 @@ fn try_once(
         return undone();
     }
     let state = powered.state;
-    read_once(dump, state, array, places)
+    read_once(dump, state, array, copy, room, places)
+}
+
+// On a copy of a smaller part's array.
+fn on_small(
+    part: u16,
+    select: u8,
+    stored: u8,
+    dump: &[u8],
+    array: &mut [u8],
+    room: &mut [u64],
+    places: &mut [u64],
+) -> Ended
+    requires { ⌜ length (now array) ≡ 4096 ⌝ }
+    ensures { λ r. ⌜ TriesReport part select stored (now (dump .entry)) (now (array .entry)) (now (places .entry)) r (now (array .exit)) (now (places .exit)) ⌝ }
+{
+    let mut copy = [0u8; SMALL];
+    try_once(part, select, stored, dump, array, &mut copy, room, places)
+}
+
+// On a copy of a larger part's array.
+fn on_large(
+    part: u16,
+    select: u8,
+    stored: u8,
+    dump: &[u8],
+    array: &mut [u8],
+    room: &mut [u64],
+    places: &mut [u64],
+) -> Ended
+    requires { ⌜ length (now array) ≡ 16384 ⌝ }
+    ensures { λ r. ⌜ TriesReport part select stored (now (dump .entry)) (now (array .entry)) (now (places .entry)) r (now (array .exit)) (now (places .exit)) ⌝ }
+{
+    let mut copy = [0u8; LARGE];
+    try_once(part, select, stored, dump, array, &mut copy, room, places)
+}
+
+// On a copy of the array, whichever part's it is.
+fn by_size(
+    part: u16,
+    select: u8,
+    stored: u8,
+    dump: &[u8],
+    array: &mut [u8],
+    room: &mut [u64],
+    places: &mut [u64],
+) -> Ended
+    ensures { λ r. ⌜ TriesReport part select stored (now (dump .entry)) (now (array .entry)) (now (places .entry)) r (now (array .exit)) (now (places .exit)) ⌝ }
+{
+    if array.len() == SMALL {
+        return on_small(part, select, stored, dump, array, room, places);
+    }
+    if array.len() == LARGE {
+        return on_large(part, select, stored, dump, array, room, places);
+    }
+    undone()
+}
+
+// With room for few places.
+fn with_few(
+    part: u16,
+    select: u8,
+    stored: u8,
+    dump: &[u8],
+    array: &mut [u8],
+    places: &mut [u64],
+) -> Ended
+    ensures { λ r. ⌜ TriesReport part select stored (now (dump .entry)) (now (array .entry)) (now (places .entry)) r (now (array .exit)) (now (places .exit)) ⌝ }
+{
+    let mut room = [0u64; FEW];
+    by_size(part, select, stored, dump, array, &mut room, places)
+}
+
+// With room for more places.
+fn with_more(
+    part: u16,
+    select: u8,
+    stored: u8,
+    dump: &[u8],
+    array: &mut [u8],
+    places: &mut [u64],
+) -> Ended
+    ensures { λ r. ⌜ TriesReport part select stored (now (dump .entry)) (now (array .entry)) (now (places .entry)) r (now (array .exit)) (now (places .exit)) ⌝ }
+{
+    let mut room = [0u64; MORE];
+    by_size(part, select, stored, dump, array, &mut room, places)
+}
+
+// With room for many places.
+fn with_many(
+    part: u16,
+    select: u8,
+    stored: u8,
+    dump: &[u8],
+    array: &mut [u8],
+    places: &mut [u64],
+) -> Ended
+    ensures { λ r. ⌜ TriesReport part select stored (now (dump .entry)) (now (array .entry)) (now (places .entry)) r (now (array .exit)) (now (places .exit)) ⌝ }
+{
+    let mut room = [0u64; MANY];
+    by_size(part, select, stored, dump, array, &mut room, places)
+}
+
+// With a room by the dump's length.
+fn by_length(
+    part: u16,
+    select: u8,
+    stored: u8,
+    dump: &[u8],
+    array: &mut [u8],
+    places: &mut [u64],
+) -> Ended
+    ensures { λ r. ⌜ TriesReport part select stored (now (dump .entry)) (now (array .entry)) (now (places .entry)) r (now (array .exit)) (now (places .exit)) ⌝ }
+{
+    if dump.len() <= SHORT {
+        return with_few(part, select, stored, dump, array, places);
+    }
+    if dump.len() <= LONGER {
+        return with_more(part, select, stored, dump, array, places);
+    }
+    with_many(part, select, stored, dump, array, places)
 }
 
 // The report of a whole dump: how many places disagree, and the first of them in the row, ascending. A refusal changes nothing.
@@ -325,7 +317,7 @@ pub fn report(
 ) -> Reply
     ensures { λ r. ⌜ Reports part select stored (now (dump .entry)) (now (array .entry)) (now (places .entry)) r (now (array .exit)) (now (places .exit)) ⌝ }
 {
-    let tried = try_once(part, select, stored, dump, array, places);
+    let tried = by_length(part, select, stored, dump, array, places);
     if tried.sound {
         let found = tried.found;
         return Reply::Accepted(found);

@@ -1,5 +1,4 @@
 // Judges a dump: how many samples it has, or its first fault.
-pub mod ends;
 mod gaps;
 
 use changes::Change;
@@ -184,7 +183,7 @@ fn judge_body(dump: &[u8], table: &[u8], heading: Heading) -> Reply
         heard = plain.heard;
         let found = tokens::next(dump, plain.at, plain.line);
         let Found::Word { from, to, line: on } = found else {
-            let number = ends::at_end(mode, heard.lines, heard.given);
+            let number = lapses::at_end(mode, heard.lines, heard.given);
             return reply_of(join_end(dump, fault, number), heard.samples);
         };
         let change = changes::change_of(dump, table, mode, heard.lines > 0, &dump[from..to]);
@@ -192,12 +191,12 @@ fn judge_body(dump: &[u8], table: &[u8], heading: Heading) -> Reply
         line = on;
         match change {
             Change::Time(time) => {
-                let number = ends::at_time(heard.lines, heard.time, heard.given, time);
+                let number = lapses::at_time(heard.lines, heard.time, heard.given, time);
                 fault = faults::join(fault, number, on);
                 heard = take_time(heard, time, fault.number == 0);
             }
             Change::Value { character, marks } => {
-                fault = faults::join(fault, ends::at_value(character, marks), on);
+                fault = faults::join(fault, lapses::at_value(character, marks), on);
                 heard.given = marks::lay(1, marks, heard.given);
             }
             Change::Moves(next) => {

@@ -2,7 +2,6 @@
 use changes::Change;
 use changes::Mode;
 use judging::Heard;
-use judging::ends;
 use pieces::Moved;
 use tokens::Found;
 use wires::marks;
@@ -63,7 +62,7 @@ pub fn hear(dump: &[u8], table: &[u8], from: usize, on: usize, before: Heard, le
             line: next,
         } = found
         else {
-            let number = ends::at_end(mode, heard.lines, heard.given);
+            let number = lapses::at_end(mode, heard.lines, heard.given);
             return Closed {
                 sound: number == 0,
                 moved: Moved {
@@ -79,7 +78,7 @@ pub fn hear(dump: &[u8], table: &[u8], from: usize, on: usize, before: Heard, le
         let change = changes::change_of(dump, table, mode, true, &dump[begins..to]);
         match change {
             Change::Time(time) => {
-                let number = ends::at_time(heard.lines, heard.time, heard.given, time);
+                let number = lapses::at_time(heard.lines, heard.time, heard.given, time);
                 let sound = number == 0;
                 let counted = judging::take_time(heard, time, sound);
                 return Closed {
@@ -95,7 +94,7 @@ pub fn hear(dump: &[u8], table: &[u8], from: usize, on: usize, before: Heard, le
                 };
             }
             Change::Value { character, marks } => {
-                let number = ends::at_value(character, marks);
+                let number = lapses::at_value(character, marks);
                 if number > 0 {
                     return wrong(heard);
                 }

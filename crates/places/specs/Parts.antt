@@ -1,6 +1,6 @@
 -- What gathering promises, in named parts.
-use Prim.Native.Nat.{ℕ, suc, _+_}
-use mathlib.Core.Bool.{Bool, true, _&&_}
+use Prim.Native.Nat.{ℕ, suc, _+_, _≤_, min}
+use mathlib.Core.Bool.{Bool, true, false, _&&_}
 use mathlib.Core.List.{List, [], _∷_, _++_}
 use mathlib.Core.Path.{_≡_}
 use lib.Dec.{leb, ltb}
@@ -16,3 +16,9 @@ pub record Gathers (levels answers : List ℕ) (first : ℕ) (row : List ℕ) (b
 abbrev pub ascending : ℕ → ℕ → List ℕ → Bool
 ascending low end [] = true
 ascending low end (k ∷ ks) = leb low k && (ltb k end && ascending (suc k) end ks)
+
+-- The first places of a room laid over a row, if the room holds all that the row wants; else the row is as it was.
+pub record LaysOut (room : List ℕ) (found : ℕ) (row row′ : List ℕ) (done : Bool) : Type 0 where
+  pub held : done ≡ true → min found (length row) ≤ length room
+  pub said : done ≡ true → row′ ≡ take (min found (length row)) room ++ drop (min found (length row)) row
+  pub kept : done ≡ false → row′ ≡ row

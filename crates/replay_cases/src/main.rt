@@ -1,6 +1,7 @@
 // Runs the cases that its arguments name through the function of the program `replay`, and writes a line with each dump's name before what
 // is written for it. A case is five words: dump, image, part, select and stored byte.
 use libc::STDOUT_FILENO;
+use replayed::given;
 ghost use Prim.Native.Nat.{_+_, _≤_};
 
 // One case from a position on; false where a file of it cannot be read or nothing can be written.
@@ -11,12 +12,6 @@ fn take_case(position: usize) -> bool
     let dump_length = os::arg(position, &mut dump_name);
     let mut image_name = io::buffer();
     let image_length = os::arg(position + 1, &mut image_name);
-    let mut part = io::buffer();
-    let part_length = os::arg(position + 2, &mut part);
-    let mut select = io::buffer();
-    let select_length = os::arg(position + 3, &mut select);
-    let mut stored = io::buffer();
-    let stored_length = os::arg(position + 4, &mut stored);
     let is_written = io::write_all(STDOUT_FILENO, b"== ")
         && io::write_all(STDOUT_FILENO, &dump_name[..dump_length])
         && io::write_all(STDOUT_FILENO, b"\n");
@@ -26,9 +21,9 @@ fn take_case(position: usize) -> bool
     replayed::replay(
         &dump_name[..dump_length],
         &image_name[..image_length],
-        words::part_named(true, &part[..part_length]),
-        words::byte_named(true, &select[..select_length]),
-        words::byte_named(true, &stored[..stored_length]),
+        given::part_at(position + 2),
+        given::byte_at(position + 3),
+        given::byte_at(position + 4),
     )
 }
 

@@ -1,5 +1,7 @@
 // From the names of a dump and an image to standard output: what the programs `replay` and `replay_cases` share. All that is written there
 // is made by proved functions of `replaying` and `texts`.
+pub mod given;
+
 use ground::Reply;
 use ground::kinds;
 use libc::STDERR_FILENO;

@@ -1,7 +1,6 @@
 -- `at_once::by_size` meets its contract. Assumes nothing.
-use mathlib.Core.Path.{refl}
 use borrow.Author.Needs.{needs}
-use Rattle.at_once.proofs.Copies.{tries-undone}
+use Rattle.at_once.proofs.Reporting.{report-undone}
 use Rattle.at_once.proofs.by_size.Statement.{statement}
 use Rattle.at_once.proofs.by_size.Tie as tie
 
@@ -39,7 +38,7 @@ undone-requires : tie.Need-undone-requires
 undone-requires c κs = search needs
 
 returns-3 : tie.Need-returns-3
-returns-3 c = tries-undone _ _ _ _ _ _ (c .undone .ensures) refl
+returns-3 c = report-undone _ _ _ _ _ _ _ (c .undone .ensures)
 
 pub by-size-spec : {M : Type 1} → statement M
 by-size-spec =

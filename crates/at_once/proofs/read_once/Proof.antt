@@ -24,11 +24,11 @@ undone-requires c κs = search needs
 returns : tie.Need-returns
 returns c = tries-undone _ _ _ _ _ _ (c .undone .ensures) refl
 
-slice-aggregate-with-few : tie.Need-slice-aggregate-with-few
-slice-aggregate-with-few c = search needs
+slice-aggregate-on-copy : tie.Need-slice-aggregate-on-copy
+slice-aggregate-on-copy c = search needs
 
-with-few-requires : tie.Need-with-few-requires
-with-few-requires c κs = ready _ _ _ _ _ _ (c .before .before .before .before .before .before .before .before .before .before .define .ensures) (c .before .before .before .before .before .before .before .start .ensures) (c .before .before .before .before .before .if1 .left) (c .before .before .before .before .before .before .before .before .before .before .before .before .before .before .before .pre)
+on-copy-requires : tie.Need-on-copy-requires
+on-copy-requires c κs = (ready _ _ _ _ _ _ (c .before .before .before .before .before .before .before .before .before .before .before .define .ensures) (c .before .before .before .before .before .before .before .before .start .ensures) (c .before .before .before .before .before .before .if1 .left) (c .before .before .before .before .before .before .before .before .before .before .before .before .before .before .before .before .before .before .pre .0), c .before .before .before .before .before .before .before .before .before .before .before .before .before .before .before .before .before .before .pre .1)
 
 same-length : tie.Need-same-length
 same-length c = search needs
@@ -36,38 +36,14 @@ same-length c = search needs
 same-length-2 : tie.Need-same-length-2
 same-length-2 c = search needs
 
-returns-2 : tie.Need-returns-2
-returns-2 c = search needs
-
-slice-aggregate-with-more : tie.Need-slice-aggregate-with-more
-slice-aggregate-with-more c = search needs
-
-with-more-requires : tie.Need-with-more-requires
-with-more-requires c κs = ready _ _ _ _ _ _ (c .before .before .before .before .before .before .before .before .before .before .before .define .ensures) (c .before .before .before .before .before .before .before .before .start .ensures) (c .before .before .before .before .before .before .if1 .left) (c .before .before .before .before .before .before .before .before .before .before .before .before .before .before .before .before .pre)
-
 same-length-3 : tie.Need-same-length-3
 same-length-3 c = search needs
 
 same-length-4 : tie.Need-same-length-4
 same-length-4 c = search needs
 
-returns-3 : tie.Need-returns-3
-returns-3 c = search needs
-
-slice-aggregate-with-many : tie.Need-slice-aggregate-with-many
-slice-aggregate-with-many c = search needs
-
-with-many-requires : tie.Need-with-many-requires
-with-many-requires c κs = ready _ _ _ _ _ _ (c .before .before .before .before .before .before .before .before .before .before .before .define .ensures) (c .before .before .before .before .before .before .before .before .start .ensures) (c .before .before .before .before .before .before .if1 .left) (c .before .before .before .before .before .before .before .before .before .before .before .before .before .before .before .before .pre)
-
-same-length-5 : tie.Need-same-length-5
-same-length-5 c = search needs
-
-same-length-6 : tie.Need-same-length-6
-same-length-6 c = search needs
-
-returns-4 : tie.Need-returns-4
-returns-4 c = search needs
+returns-2 : tie.Need-returns-2
+returns-2 c = search needs
 
 pub read-once-spec : {M : Type 1} → statement M
 read-once-spec =
@@ -79,18 +55,10 @@ read-once-spec =
     start-requires
     undone-requires
     returns
-    slice-aggregate-with-few
-    with-few-requires
+    slice-aggregate-on-copy
+    on-copy-requires
     same-length
     same-length-2
-    returns-2
-    slice-aggregate-with-more
-    with-more-requires
     same-length-3
     same-length-4
-    returns-3
-    slice-aggregate-with-many
-    with-many-requires
-    same-length-5
-    same-length-6
-    returns-4)
+    returns-2)

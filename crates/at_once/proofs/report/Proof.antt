@@ -4,8 +4,8 @@ use Rattle.at_once.proofs.Reporting.{report-left}
 use Rattle.at_once.proofs.report.Statement.{statement}
 use Rattle.at_once.proofs.report.Tie as tie
 
-try-once-requires : tie.Need-try-once-requires
-try-once-requires c κs = search needs
+by-length-requires : tie.Need-by-length-requires
+by-length-requires c κs = search needs
 
 same-length : tie.Need-same-length
 same-length c = search needs
@@ -14,7 +14,7 @@ same-length-2 : tie.Need-same-length-2
 same-length-2 c = search needs
 
 returns : tie.Need-returns
-returns c = c .before .before .before .before .before .try-once .ensures .reports (c .if1 .taken)
+returns c = c .before .before .before .before .before .by-length .ensures .reports (c .if1 .taken)
 
 report-requires : tie.Need-report-requires
 report-requires c κs = search needs
@@ -26,13 +26,13 @@ same-length-4 : tie.Need-same-length-4
 same-length-4 c = search needs
 
 returns-2 : tie.Need-returns-2
-returns-2 c = report-left _ _ _ _ _ _ _ _ _ (c .before .before .before .before .before .before .before .before .before .before .before .before .try-once .ensures) (c .before .before .before .before .before .before .before .if1 .left) _ _ _ (c .before .before .before .before .report .ensures)
+returns-2 c = report-left _ _ _ _ _ _ _ _ _ (c .before .before .before .before .before .before .before .before .before .before .before .before .by-length .ensures) (c .before .before .before .before .before .before .before .if1 .left) _ _ _ (c .before .before .before .before .report .ensures)
 
 pub report-spec : {M : Type 1} → statement M
 report-spec =
     tie.close
     (tie.spec
-    try-once-requires
+    by-length-requires
     same-length
     same-length-2
     returns

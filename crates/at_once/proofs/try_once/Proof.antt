@@ -33,7 +33,7 @@ returns-2 : tie.Need-returns-2
 returns-2 c = report-undone _ _ _ _ _ _ _ (c .undone2 .ensures)
 
 read-once-requires : tie.Need-read-once-requires
-read-once-requires c κs = powered-fit _ _ _ [] _ [] _ (c .before .before .before .before .before .before .before .before .power-up .ensures) _ (c .before .before .before .before .before .before .enum-told .given .1) _ (c .before .before .before .before .before .kind-of .ensures) (c .before .before .before .if1 .left)
+read-once-requires c κs = (powered-fit _ _ _ [] _ [] _ (c .before .before .before .before .before .before .before .before .before .before .power-up .ensures) _ (c .before .before .before .before .before .before .before .before .enum-told .given .1) _ (c .before .before .before .before .before .before .before .kind-of .ensures) (c .before .before .before .before .before .if1 .left), c .before .before .before .before .before .before .before .before .before .before .before .before .before .before .before .before .pre)
 
 same-length : tie.Need-same-length
 same-length c = search needs
@@ -41,8 +41,14 @@ same-length c = search needs
 same-length-2 : tie.Need-same-length-2
 same-length-2 c = search needs
 
+same-length-3 : tie.Need-same-length-3
+same-length-3 c = search needs
+
+same-length-4 : tie.Need-same-length-4
+same-length-4 c = search needs
+
 returns-3 : tie.Need-returns-3
-returns-3 c = tries-report _ _ _ _ _ _ _ (c .before .before .before .before .before .before .before .before .before .before .before .before .before .power-up .ensures) _ (c .before .before .before .before .before .before .before .before .before .before .before .enum-told .given .1) _ (c .before .before .before .before .before .before .before .before .before .before .kind-of .ensures) (c .before .before .before .before .before .before .before .before .if1 .left) _ _ _ (c .before .before .before .before .read-once .ensures)
+returns-3 c = tries-report _ _ _ _ _ _ _ (c .before .before .before .before .before .before .before .before .before .before .before .before .before .before .before .before .before .before .before .power-up .ensures) _ (c .before .before .before .before .before .before .before .before .before .before .before .before .before .before .before .before .before .enum-told .given .1) _ (c .before .before .before .before .before .before .before .before .before .before .before .before .before .before .before .before .kind-of .ensures) (c .before .before .before .before .before .before .before .before .before .before .before .before .before .before .if1 .left) _ _ _ (c .before .before .before .before .before .before .before .before .read-once .ensures)
 
 pub try-once-spec : {M : Type 1} → statement M
 try-once-spec =
@@ -60,4 +66,6 @@ try-once-spec =
     read-once-requires
     same-length
     same-length-2
+    same-length-3
+    same-length-4
     returns-3)

@@ -6,7 +6,7 @@ use mathlib.Core.Path.{_≡_, refl, ap, sym, _∙_}
 use native.Mathlib.Numerals.{add-one}
 use native.Mathlib.Omega.{arith}
 use lib.ListN.{length, take, drop, getD, set, length-set}
-use Rattle.at_once.specs.Promises.{LaysOut}
+use Rattle.places.specs.Parts.{LaysOut}
 
 -- A laying that has come to an index.
 pub record Laying (room row₀ : List ℕ) (wanted : ℕ) (row : List ℕ) (i : ℕ) : Type 0 where

@@ -1,8 +1,8 @@
--- `judging::ends::at_time` meets its contract. Assumes nothing.
+-- `lapses::at_time` meets its contract. Assumes nothing.
 use native.Mathlib.Omega.{arith}
 use borrow.Author.Tests.{lt-ltb, le-leb, lt-leb, eq-eqb, ne-eqb}
-use Rattle.judging.proofs.ends.at_time.Statement.{statement}
-use Rattle.judging.proofs.ends.at_time.Tie as tie
+use Rattle.lapses.proofs.at_time.Statement.{statement}
+use Rattle.lapses.proofs.at_time.Tie as tie
 
 returns : tie.Need-returns
 returns c = rw (c .if1 .taken)

@@ -1,7 +1,7 @@
--- `judging::ends::at_value` meets its contract. Assumes nothing.
+-- `lapses::at_value` meets its contract. Assumes nothing.
 use borrow.Author.Needs.{needs}
-use Rattle.judging.proofs.ends.at_value.Statement.{statement}
-use Rattle.judging.proofs.ends.at_value.Tie as tie
+use Rattle.lapses.proofs.at_value.Statement.{statement}
+use Rattle.lapses.proofs.at_value.Tie as tie
 
 is-unfit-requires : tie.Need-is-unfit-requires
 is-unfit-requires c κs = search needs

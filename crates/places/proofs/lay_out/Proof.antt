@@ -1,16 +1,16 @@
--- `at_once::lay_out` meets its contract. Assumes nothing.
+-- `places::lay_out` meets its contract. Assumes nothing.
 use Prim.Native.Nat.{_-_}
 use native.Mathlib.Omega.{arith}
 use borrow.Author.Needs.{needs, scaled-fits}
-use Rattle.at_once.proofs.Laying.{Laying, laying-starts, laying-on, laying-ends, lays-nothing}
-use Rattle.at_once.proofs.lay_out.Statement.{statement}
-use Rattle.at_once.proofs.lay_out.Tie as tie
+use Rattle.places.proofs.Laying.{Laying, laying-starts, laying-on, laying-ends, lays-nothing}
+use Rattle.places.proofs.lay_out.Statement.{statement}
+use Rattle.places.proofs.lay_out.Tie as tie
 
 abbrev Inv-loop : tie.InvT-loop
-Inv-loop room found places₀ wanted i₀ places i = Laying room places₀ wanted places i
+Inv-loop room found places₀ wanted k₀ places k = Laying room places₀ wanted places k
 
 abbrev μ-loop : tie.MeasureT-loop
-μ-loop room found places₀ wanted i₀ places i = wanted - i
+μ-loop room found places₀ wanted k₀ places k = wanted - k
 
 lesser-requires : tie.Need-lesser-requires Inv-loop μ-loop
 lesser-requires c κs = search needs
@@ -33,8 +33,8 @@ mul-places-2 c = scaled-fits _ _ 8 (omega arith) (c .before .before .before .bef
 slice-write-places : tie.Need-slice-write-places Inv-loop μ-loop
 slice-write-places c = omega arith
 
-add-i : tie.Need-add-i Inv-loop μ-loop
-add-i c = omega arith
+add-k : tie.Need-add-k Inv-loop μ-loop
+add-k c = omega arith
 
 loop-less : tie.Need-loop-less Inv-loop μ-loop
 loop-less c = omega arith
@@ -61,7 +61,7 @@ lay-out-spec =
     shared-slice-read-places
     mul-places-2
     slice-write-places
-    add-i
+    add-k
     loop-less
     loop-again
     same-length

@@ -1,7 +1,7 @@
--- `judging::ends::at_whole_end` meets its contract. Assumes nothing.
+-- `lapses::at_whole_end` meets its contract. Assumes nothing.
 use borrow.Author.Tests.{lt-ltb, le-ltb, ne-eqb}
-use Rattle.judging.proofs.ends.at_whole_end.Statement.{statement}
-use Rattle.judging.proofs.ends.at_whole_end.Tie as tie
+use Rattle.lapses.proofs.at_whole_end.Statement.{statement}
+use Rattle.lapses.proofs.at_whole_end.Tie as tie
 
 returns : tie.Need-returns
 returns c =

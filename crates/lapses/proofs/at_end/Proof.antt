@@ -1,7 +1,7 @@
--- `judging::ends::at_end` meets its contract. Assumes nothing.
+-- `lapses::at_end` meets its contract. Assumes nothing.
 use borrow.Author.Needs.{needs}
-use Rattle.judging.proofs.ends.at_end.Statement.{statement}
-use Rattle.judging.proofs.ends.at_end.Tie as tie
+use Rattle.lapses.proofs.at_end.Statement.{statement}
+use Rattle.lapses.proofs.at_end.Tie as tie
 
 enum-told : tie.Need-enum-told
 enum-told c = search needs
