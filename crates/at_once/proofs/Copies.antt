@@ -9,13 +9,14 @@ use lib.ListN.{length, take, drop, length-take, drop-of-length-le}
 use lib.Seq.{take-length, take-all, take-take, take-append-le}
 use borrow.Author.Tests.{leb-true, leb-false}
 use Rattle.ground.proofs.Tests.{not-failed}
+use Rattle.part.specs.Bench.{partOf}
 use Rattle.part.specs.declared.state.State.{State}
 use Rattle.sample.specs.Run.{Part}
 use Rattle.dumps.specs.Samples.{samplesIn}
 use Rattle.places.specs.Places.{placesIn, laidOver}
 use Rattle.one_reading.specs.declared.Track.{Track}
 use Rattle.at_once.specs.declared.Ended.{Ended}
-use Rattle.at_once.specs.Promises.{partWith, Ready, Whole, Passes, Tries}
+use Rattle.at_once.specs.Promises.{Ready, Whole, Passes, Tries}
 use Rattle.places.specs.Parts.{LaysOut}
 
 -- All of a row copied over another of its length is that row.
@@ -76,20 +77,20 @@ module _ (dump : List ℕ) (s : State) (array copy copy₁ : List ℕ) (l : leng
   ready-copied table t g = rw same g
 
   -- A reading on a copy that ended sound, with copy and places brought out.
-  pub tries-done : (room₀ : List ℕ) (r : Ended) (copy₂ room : List ℕ) → Passes dump (partWith s copy₁) room₀ r copy₂ room
+  pub tries-done : (room₀ : List ℕ) (r : Ended) (copy₂ room : List ℕ) → Passes dump (partOf s copy₁) room₀ r copy₂ room
       → not (r .sound) ≡ false → length copy₂ ≡ length copy₁ → length room ≡ length room₀
       → (row row′ : List ℕ) (done : Bool) → LaysOut room (r .found) row row′ done → not done ≡ false
       → (array′ : List ℕ) → array′ ≡ take (length copy₂) copy₂ ++ drop (length copy₂) array
       → Tries dump s array row r array′ row′
   tries-done room₀ r copy₂ room x h m n row row′ done o d array′ a =
       let sound = not-failed (r .sound) h in
-      let w : Whole dump (partWith s array) room₀ (r .found) copy₂ room =
-      subst (λ (z : List ℕ). Whole dump (partWith s z) room₀ (r .found) copy₂ room) same (x .whole sound)
+      let w : Whole dump (partOf s array) room₀ (r .found) copy₂ room =
+      subst (λ (z : List ℕ). Whole dump (partOf s z) room₀ (r .found) copy₂ room) same (x .whole sound)
       in
       let k : array′ ≡ copy₂ = a ∙ copied copy₂ array (sym (m ∙ ap length same)) in
-      let v = whole-out dump (partWith s array) room₀ (r .found) copy₂ room row row′ done w n o (not-failed done d) in
+      let v = whole-out dump (partOf s array) room₀ (r .found) copy₂ room row row′ done w n o (not-failed done d) in
       record {
-        whole = λ z. subst (λ (q : List ℕ). Whole dump (partWith s array) row (r .found) q row′) (sym k) v;
+        whole = λ z. subst (λ (q : List ℕ). Whole dump (partOf s array) row (r .found) q row′) (sym k) v;
         kept = λ z. absurd (true≢false (sym sound ∙ z));
         laid = λ z. absurd (true≢false (sym sound ∙ z));
       }

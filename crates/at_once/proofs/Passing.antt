@@ -8,6 +8,7 @@ use lib.ListN.{length, take, drop, length-append, length-drop}
 use lib.Seq.{take-at, drop-drop}
 use Rattle.ground.specs.Verdict.{accepted}
 use Rattle.ground.proofs.Tests.{not-failed}
+use Rattle.part.specs.Bench.{partOf}
 use Rattle.part.specs.declared.state.State.{State}
 use Rattle.refusals.specs.Refusals.{judgedOf}
 use Rattle.power.specs.declared.Replayed.{Replayed}
@@ -28,7 +29,7 @@ use Rattle.one_reading.specs.Promises.{Sound, Reads}
 use Rattle.one_reading.proofs.Tracks.{left-length, next-small}
 use Rattle.disagreements.proofs.Piecewise.{said-length, piece-judged, Playing, playing-starts, playing-ends, playing-on}
 use Rattle.disagreements.proofs.Turns.{piece-length, times-fit, bytes-fit, answers-fit}
-use Rattle.at_once.specs.Promises.{partWith, Ready, Passes}
+use Rattle.at_once.specs.Promises.{Ready, Passes}
 
 -- The samples of a piece that was read.
 abbrev pieceOf : List ℕ → Track → Went → List Sample
@@ -40,16 +41,16 @@ pub record Passing (dump : List ℕ) (p₀ : Part) (room₀ : List ℕ) (t : Tra
   pub sound : Sound dump t
   pub low : t .mark .level ≤ 15
   pub left : leftFrom dump (t .mark) ≡ drop next (samplesIn dump)
-  pub fit : Fit (partWith s array)
+  pub fit : Fit (partOf s array)
   pub whole : length array ≡ length (p₀ .array)
   pub times : length elapsed ≡ 1024
   pub bytes : length levels ≡ 1024
   pub said : length answers ≡ 1024
-  pub playing : Playing 0 (samplesIn dump) p₀ room₀ next (leftFrom dump (t .mark)) (partWith s array) room found
+  pub playing : Playing 0 (samplesIn dump) p₀ room₀ next (leftFrom dump (t .mark)) (partOf s array) room found
 
 pub passing-starts : (dump table : List ℕ) (t : Track) (s : State) (array room elapsed levels answers : List ℕ) → Ready dump table t s array
     → length elapsed ≡ 1024 → length levels ≡ 1024 → length answers ≡ 1024
-    → Passing dump (partWith s array) room t s 0 0 array room elapsed levels answers
+    → Passing dump (partOf s array) room t s 0 0 array room elapsed levels answers
 passing-starts dump table t s array room elapsed levels answers r a b c =
     record {
       sound = r .sound;
@@ -60,7 +61,7 @@ passing-starts dump table t s array room elapsed levels answers r a b c =
       times = a;
       bytes = b;
       said = c;
-      playing = rw (r .left) (playing-starts 0 (samplesIn dump) (partWith s array) room);
+      playing = rw (r .left) (playing-starts 0 (samplesIn dump) (partOf s array) room);
     }
 
 module _ (dump : List ℕ) (p₀ : Part) (room₀ : List ℕ) (t : Track) (s : State) (next found : ℕ)
@@ -132,31 +133,31 @@ module _ (dump : List ℕ) (p₀ : Part) (room₀ : List ℕ) (t : Track) (s : S
           let a = answers-held in
           let c = count-few in (
             rw (piece-times _ _ _ _ _ _ _ filled, piece-bytes _ _ _ _ _ _ _ filled) at y,
-            piece-judged (pieceOf dump t r) (partWith s array) (take (r .count) answers) (g .fit) (omega arith) (omega arith)
+            piece-judged (pieceOf dump t r) (partOf s array) (take (r .count) answers) (g .fit) (omega arith) (omega arith)
                 (λ v. piece-taken dump (t .mark) (r .count) v (g .low)),
           )
 
-      part-after : partWith (q .state) array′ ≡ partAfterAll (pieceOf dump t r) (partWith s array)
+      part-after : partOf (q .state) array′ ≡ partAfterAll (pieceOf dump t r) (partOf s array)
       part-after =
           let j = judged-piece in
-          let state : q .state ≡ partAfterAll (pieceOf dump t r) (partWith s array) .state = j .0 .state ∙ (rw (j .1)) in
-          let kept : array′ ≡ partAfterAll (pieceOf dump t r) (partWith s array) .array = j .0 .kept ∙ (rw (j .1)) in
+          let state : q .state ≡ partAfterAll (pieceOf dump t r) (partOf s array) .state = j .0 .state ∙ (rw (j .1)) in
+          let kept : array′ ≡ partAfterAll (pieceOf dump t r) (partOf s array) .array = j .0 .kept ∙ (rw (j .1)) in
           λ i. record { state = state i; array = kept i }
 
-      row-said : row′ ≡ answersOf (elapsedOf (pieceOf dump t r)) (levelsOf (pieceOf dump t r)) (partWith s array)
+      row-said : row′ ≡ answersOf (elapsedOf (pieceOf dump t r)) (levelsOf (pieceOf dump t r)) (partOf s array)
       row-said = let j = judged-piece in j .0 .said ∙ (rw (j .1))
 
       row-length : length row′ ≡ r .count
-      row-length = ap length row-said ∙ said-length (pieceOf dump t r) (partWith s array) ∙ piece-length _ _ _ _ _ _ _ filled
+      row-length = ap length row-said ∙ said-length (pieceOf dump t r) (partOf s array) ∙ piece-length _ _ _ _ _ _ _ filled
 
       -- The front of the answer row is what the twin said.
       front-said : take (r .count) (row′ ++ drop (r .count) answers)
-          ≡ answersOf (elapsedOf (pieceOf dump t r)) (levelsOf (pieceOf dump t r)) (partWith s array)
+          ≡ answersOf (elapsedOf (pieceOf dump t r)) (levelsOf (pieceOf dump t r)) (partOf s array)
       front-said = take-at row′ (drop (r .count) answers) (r .count) row-length ∙ row-said
 
       pub answers-front : r .count ≡ length (take (r .count) (row′ ++ drop (r .count) answers))
       answers-front =
-          sym (ap length front-said ∙ said-length (pieceOf dump t r) (partWith s array) ∙ piece-length _ _ _ _ _ _ _ filled)
+          sym (ap length front-said ∙ said-length (pieceOf dump t r) (partOf s array) ∙ piece-length _ _ _ _ _ _ _ filled)
 
       pub answers-within : r .count ≤ length (row′ ++ drop (r .count) answers)
       answers-within = let n = row-length in simp length-append (omega arith)
@@ -180,7 +181,7 @@ module _ (dump : List ℕ) (p₀ : Part) (room₀ : List ℕ) (t : Track) (s : S
           let all = g .said in
           let n = f .count in
           let e = piece-bytes _ _ _ _ _ _ _ filled in
-          let fit = run-fit (elapsedOf (pieceOf dump t r)) (levelsOf (pieceOf dump t r)) (partWith s array) (g .fit) in
+          let fit = run-fit (elapsedOf (pieceOf dump t r)) (levelsOf (pieceOf dump t r)) (partOf s array) (g .fit) in
           record {
             sound = x .track (not-failed (r .sound) h);
             low = f .low (g .low);

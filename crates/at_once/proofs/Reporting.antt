@@ -11,6 +11,7 @@ use Rattle.ground.specs.declared.Reply.{Reply}
 use Rattle.ground.specs.declared.Reply.the-variants.{Accepted}
 use Rattle.ground.proofs.Tests.{not-failed}
 use Rattle.ground.proofs.Verdicts.{is-accepted}
+use Rattle.part.specs.Bench.{partOf}
 use Rattle.part.specs.declared.state.State.{State}
 use Rattle.refusals.specs.Refusals.{powerOf}
 use Rattle.power.specs.Power.{poweredUp, atPower}
@@ -27,11 +28,11 @@ use Rattle.one_reading.specs.Promises.{Starts}
 use Rattle.disagreements.specs.Promises.{Reports}
 use Rattle.disagreements.proofs.Openings.{dump-decides}
 use Rattle.at_once.specs.declared.Ended.{Ended}
-use Rattle.at_once.specs.Promises.{partWith, Ready, Whole, Tries, TriesReport}
+use Rattle.at_once.specs.Promises.{Ready, Whole, Tries, TriesReport}
 
 -- A dump that starts sound is ready for a part that is fit.
 pub ready : (dump table : List ℕ) (heading : Heading) (r : Started) (s : State) (array : List ℕ) → Defines dump heading table → Starts dump r
-    → not (r .sound) ≡ false → Fit (partWith s array) → Ready dump table (r .track) s array
+    → not (r .sound) ≡ false → Fit (partOf s array) → Ready dump table (r .track) s array
 ready dump table heading r s array d x h f =
     let sound = not-failed (r .sound) h in
     record { tabled = d .tabled; sound = x .sound sound; left = x .left sound; low = x .low sound; fit = f }
@@ -60,16 +61,16 @@ module _ (part select stored : ℕ) (dump array row : List ℕ) where
     sized = rw k at h
 
     -- The part that is powered up, with the array.
-    at-power : atPower part select stored array ≡ partWith (p .state) array
+    at-power : atPower part select stored array ≡ partOf (p .state) array
     at-power =
         let s : poweredUp part select stored ≡ p .state = sym (u .state ∙ (rw powers)) in
         λ i. record { state = s i; array = array }
 
-    pub powered-fit : Fit (partWith (p .state) array)
+    pub powered-fit : Fit (partOf (p .state) array)
     powered-fit = subst (λ (z : Part). Fit z) at-power (power-fit part select stored array n powers sized)
 
     -- A whole from there on is the report.
-    pub whole-reports : (found : ℕ) (array′ row′ : List ℕ) → Whole dump (partWith (p .state) array) row found array′ row′
+    pub whole-reports : (found : ℕ) (array′ row′ : List ℕ) → Whole dump (partOf (p .state) array) row found array′ row′
         → Reports part select stored dump array row (Accepted found) array′ row′
     unfolding meant placesOf
     whole-reports found array′ row′ w =

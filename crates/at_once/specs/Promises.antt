@@ -4,8 +4,10 @@ use mathlib.Core.Bool.{true, false}
 use mathlib.Core.List.{List}
 use mathlib.Core.Path.{_≡_}
 use lib.ListN.{length}
+use Rattle.ground.specs.Numbers.{mostLevel}
 use Rattle.ground.specs.Verdict.{accepted}
 use Rattle.ground.specs.declared.Reply.the-variants.{Accepted}
+use Rattle.part.specs.Bench.{partOf}
 use Rattle.part.specs.declared.state.State.{State}
 use Rattle.sample.specs.Run.{Part}
 use Rattle.ranges.specs.Fit.{Fit}
@@ -20,17 +22,13 @@ use Rattle.one_reading.specs.Promises.{Sound}
 use Rattle.disagreements.specs.Promises.{Reports}
 use Rattle.at_once.specs.declared.Ended.{Ended}
 
--- A part: a state with an array beside it.
-abbrev pub partWith : State → List ℕ → Part
-partWith s array = record { state = s; array = array }
-
 -- A dump read up to its first sample without a fault, and a part that takes any piece of it.
 pub record Ready (dump table : List ℕ) (t : Track) (s : State) (array : List ℕ) : Type 0 where
   pub tabled : Tabled (varsOf dump) table
   pub sound : Sound dump t
   pub left : leftFrom dump (t .mark) ≡ samplesIn dump
-  pub low : t .mark .level ≤ 15
-  pub fit : Fit (partWith s array)
+  pub low : t .mark .level ≤ mostLevel
+  pub fit : Fit (partOf s array)
 
 -- A sound dump replayed to its end: its verdict, how many places disagree, the first of them in a row, and the array.
 pub record Whole (dump : List ℕ) (p : Part) (row : List ℕ) (found : ℕ) (array′ row′ : List ℕ) : Type 0 where
@@ -45,7 +43,7 @@ pub record Passes (dump : List ℕ) (p : Part) (row : List ℕ) (r : Ended) (arr
 
 -- A reading that leaves array and row as they were unless it ended sound.
 pub record Tries (dump : List ℕ) (s : State) (array row : List ℕ) (r : Ended) (array′ row′ : List ℕ) : Type 0 where
-  pub whole : r .sound ≡ true → Whole dump (partWith s array) row (r .found) array′ row′
+  pub whole : r .sound ≡ true → Whole dump (partOf s array) row (r .found) array′ row′
   pub kept : r .sound ≡ false → array′ ≡ array
   pub laid : r .sound ≡ false → row′ ≡ row
 

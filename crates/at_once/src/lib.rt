@@ -7,15 +7,16 @@ use part::state::State;
 ghost use mathlib.Core.Path.{_≡_};
 ghost use mathlib.Core.Bool.{false};
 ghost use lib.ListN.{length};
+ghost use Rattle.part.specs.Bench.{partOf};
 ghost use Rattle.ranges.specs.Fit.{Fit};
 ghost use Rattle.disagreements.specs.Promises.{Reports};
-ghost use Rattle.at_once.specs.Promises.{partWith, Ready, Passes, Tries, TriesReport};
+ghost use Rattle.at_once.specs.Promises.{Ready, Passes, Tries, TriesReport};
 
 // The samples of a piece: rows of this length are quickly cleared.
 pub const PIECE: usize = 1024;
 
 // The places that are kept until the dump is known to be sound. Their room has to be cleared, so it is small for a short dump, larger for a
-// longer one, and largest for a long one; a dump with more places than that is read in two readings.
+// longer one, and largest for a long one; a dump with more places than that, all of them wanted by the row, is read in two readings.
 const SHORT: usize = 16_384;
 
 const LONGER: usize = 262_144;
@@ -63,7 +64,7 @@ fn play_through(
     requires { ⌜ length (now elapsed) ≡ 1024 ⌝ }
     requires { ⌜ length (now levels) ≡ 1024 ⌝ }
     requires { ⌜ length (now answers) ≡ 1024 ⌝ }
-    ensures { λ r. ⌜ Passes (now (dump .entry)) (partWith powered (now (array .entry))) (now (room .entry)) r (now (array .exit)) (now (room .exit)) ⌝ }
+    ensures { λ r. ⌜ Passes (now (dump .entry)) (partOf powered (now (array .entry))) (now (room .entry)) r (now (array .exit)) (now (room .exit)) ⌝ }
 {
     let mut track = from;
     let mut state = powered;
@@ -145,11 +146,11 @@ fn read_once(
     room: &mut [u64],
     places: &mut [u64],
 ) -> Ended
-    requires { ⌜ Fit (partWith powered (now array)) ⌝ }
+    requires { ⌜ Fit (partOf powered (now array)) ⌝ }
     requires { ⌜ length (now copy) ≡ length (now array) ⌝ }
     ensures { λ r. ⌜ Tries (now (dump .entry)) powered (now (array .entry)) (now (places .entry)) r (now (array .exit)) (now (places .exit)) ⌝ }
 {
-    let mut table = [0u8; 256];
+    let mut table = [0u8; headings::CODES];
     let heading = headings::define(dump, &mut table);
     let started = one_reading::start(dump, &table, heading);
     if !started.sound {
@@ -186,40 +187,6 @@ fn try_once(
     read_once(dump, state, array, copy, room, places)
 }
 
-// On a copy of a smaller part's array.
-fn on_small(
-    part: u16,
-    select: u8,
-    stored: u8,
-    dump: &[u8],
-    array: &mut [u8],
-    room: &mut [u64],
-    places: &mut [u64],
-) -> Ended
-    requires { ⌜ length (now array) ≡ 4096 ⌝ }
-    ensures { λ r. ⌜ TriesReport part select stored (now (dump .entry)) (now (array .entry)) (now (places .entry)) r (now (array .exit)) (now (places .exit)) ⌝ }
-{
-    let mut copy = [0u8; SMALL];
-    try_once(part, select, stored, dump, array, &mut copy, room, places)
-}
-
-// On a copy of a larger part's array.
-fn on_large(
-    part: u16,
-    select: u8,
-    stored: u8,
-    dump: &[u8],
-    array: &mut [u8],
-    room: &mut [u64],
-    places: &mut [u64],
-) -> Ended
-    requires { ⌜ length (now array) ≡ 16384 ⌝ }
-    ensures { λ r. ⌜ TriesReport part select stored (now (dump .entry)) (now (array .entry)) (now (places .entry)) r (now (array .exit)) (now (places .exit)) ⌝ }
-{
-    let mut copy = [0u8; LARGE];
-    try_once(part, select, stored, dump, array, &mut copy, room, places)
-}
-
 // On a copy of the array, whichever part's it is.
 fn by_size(
     part: u16,
@@ -233,57 +200,14 @@ fn by_size(
     ensures { λ r. ⌜ TriesReport part select stored (now (dump .entry)) (now (array .entry)) (now (places .entry)) r (now (array .exit)) (now (places .exit)) ⌝ }
 {
     if array.len() == SMALL {
-        return on_small(part, select, stored, dump, array, room, places);
+        let mut copy = [0u8; SMALL];
+        return try_once(part, select, stored, dump, array, &mut copy, room, places);
     }
     if array.len() == LARGE {
-        return on_large(part, select, stored, dump, array, room, places);
+        let mut copy = [0u8; LARGE];
+        return try_once(part, select, stored, dump, array, &mut copy, room, places);
     }
     undone()
-}
-
-// With room for few places.
-fn with_few(
-    part: u16,
-    select: u8,
-    stored: u8,
-    dump: &[u8],
-    array: &mut [u8],
-    places: &mut [u64],
-) -> Ended
-    ensures { λ r. ⌜ TriesReport part select stored (now (dump .entry)) (now (array .entry)) (now (places .entry)) r (now (array .exit)) (now (places .exit)) ⌝ }
-{
-    let mut room = [0u64; FEW];
-    by_size(part, select, stored, dump, array, &mut room, places)
-}
-
-// With room for more places.
-fn with_more(
-    part: u16,
-    select: u8,
-    stored: u8,
-    dump: &[u8],
-    array: &mut [u8],
-    places: &mut [u64],
-) -> Ended
-    ensures { λ r. ⌜ TriesReport part select stored (now (dump .entry)) (now (array .entry)) (now (places .entry)) r (now (array .exit)) (now (places .exit)) ⌝ }
-{
-    let mut room = [0u64; MORE];
-    by_size(part, select, stored, dump, array, &mut room, places)
-}
-
-// With room for many places.
-fn with_many(
-    part: u16,
-    select: u8,
-    stored: u8,
-    dump: &[u8],
-    array: &mut [u8],
-    places: &mut [u64],
-) -> Ended
-    ensures { λ r. ⌜ TriesReport part select stored (now (dump .entry)) (now (array .entry)) (now (places .entry)) r (now (array .exit)) (now (places .exit)) ⌝ }
-{
-    let mut room = [0u64; MANY];
-    by_size(part, select, stored, dump, array, &mut room, places)
 }
 
 // With a room by the dump's length.
@@ -298,12 +222,15 @@ fn by_length(
     ensures { λ r. ⌜ TriesReport part select stored (now (dump .entry)) (now (array .entry)) (now (places .entry)) r (now (array .exit)) (now (places .exit)) ⌝ }
 {
     if dump.len() <= SHORT {
-        return with_few(part, select, stored, dump, array, places);
+        let mut room = [0u64; FEW];
+        return by_size(part, select, stored, dump, array, &mut room, places);
     }
     if dump.len() <= LONGER {
-        return with_more(part, select, stored, dump, array, places);
+        let mut room = [0u64; MORE];
+        return by_size(part, select, stored, dump, array, &mut room, places);
     }
-    with_many(part, select, stored, dump, array, places)
+    let mut room = [0u64; MANY];
+    by_size(part, select, stored, dump, array, &mut room, places)
 }
 
 // The report of a whole dump: how many places disagree, and the first of them in the row, ascending. A refusal changes nothing.

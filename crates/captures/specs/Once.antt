@@ -2,22 +2,17 @@
 use Prim.Native.Nat.{ℕ}
 use mathlib.Core.List.{List}
 use mathlib.Core.Path.{_≡_}
-use Rattle.ground.specs.Verdict.{Verdict, accepted, refused, meant}
+use Rattle.ground.specs.Verdict.{Verdict, unlessRefused, meant}
 use Rattle.ground.specs.declared.Reply.{Reply}
 use Rattle.refusals.specs.Refusals.{judgedOf, powerOf}
 use Rattle.sample.specs.Run.{partAfter}
 use Rattle.power.specs.Power.{poweredUp, atPower}
 use Rattle.twin.specs.Promises.{rowAfter}
 
--- Power-up's refusal comes before anything that the capture says (Refusal numbers, 1 to 10).
-abbrev pub onceBy : Verdict → Verdict → Verdict
-onceBy (accepted n) v = v
-onceBy (refused k p) v = refused k p
-
--- The verdict on a capture that starts at power-up (Refusal numbers, 1 to 10).
+-- The verdict on a capture that starts at power-up, whose refusal comes before anything that the capture says (Refusal numbers, 1 to 10).
 unfoldable pub captureVerdict : ℕ → ℕ → ℕ → List ℕ → List ℕ → List ℕ → List ℕ → Verdict
 captureVerdict part select stored es ls array row =
-    onceBy (powerOf part select stored) (judgedOf (poweredUp part select stored) es ls array row)
+    unlessRefused (powerOf part select stored) (judgedOf (poweredUp part select stored) es ls array row)
 
 -- Power-up and replay in one (Refusal numbers, 1 to 10).
 pub record Captures (part select stored : ℕ) (es ls array row : List ℕ) (r : Reply) (array′ row′ : List ℕ) : Type 0 where

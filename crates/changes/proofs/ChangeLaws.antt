@@ -1,31 +1,34 @@
 -- Laws of the tokens behind a dump's definitions, for the proofs here and for callers. Assumes nothing.
 use Prim.Native.Nat.{ℕ, _-_, _<_, _≤_}
-use mathlib.Core.Bool.{Bool, true, false, _&&_}
+use mathlib.Core.Bool.{Bool, true, false}
 use mathlib.Core.List.{List, [], _∷_}
 use mathlib.Core.Path.{_≡_, refl, ap, sym, subst, _∙_}
 use native.Mathlib.Omega.{arith}
-use lib.Dec.{eqb, ltb, leb}
-use lib.ListN.{length, getD, take, drop, length-drop}
-use lib.Seq.{take-all}
-use borrow.Author.Tests.{leb-true, le-leb, lt-leb, lt-ltb, le-ltb, eq-eqb, ne-eqb}
+use lib.Dec.{eqb}
+use lib.ListN.{length, getD, take, drop}
+use borrow.Author.Tests.{le-leb, lt-leb, lt-ltb, le-ltb, eq-eqb, ne-eqb}
+use Rattle.ground.proofs.Rows.{tail-whole}
+use Rattle.codes.specs.Codes.{hash}
 use Rattle.sections.specs.declared.Keyword.{Keyword}
 use Rattle.sections.specs.declared.Keyword.the-variants.{Remark, Comment, Timescale, Scope, Var, Upscope, EndDefinitions, Dumpvars, End, Other}
 use Rattle.sections.specs.declared.Stage.the-variants.{Body}
 use Rattle.sections.specs.declared.Place.the-variants as place
 use Rattle.sections.specs.declared.Step.{Step}
 use Rattle.sections.specs.Spelling.{keywordOf, isEnd}
-use Rattle.sections.specs.Sections.{Says, moves, codes, names, defines, times, puts, breaks, stepMeant, sayBy, goBy, skipBy, opens, sectionSays}
+use Rattle.sections.specs.Sections.{Says, moves, times, puts, breaks, stepMeant, goBy, skipBy, opens, sectionSays}
 use Rattle.sections.proofs.SectionLaws.{stepOf, step-from}
 use Rattle.wires.specs.Wires.{marksOf}
 use Rattle.wires.specs.Times.{highestTime, timeOf}
 use Rattle.wires.specs.Values.{isValue}
-use Rattle.dumps.specs.Reading.{Known, hash, timeSays, valueSays, bodyBy, dumpedBy, dumpedSays, saysAt, saysOf, after, afterBy}
+use Rattle.dumps.specs.Reading.{Known, timeSays, valueSays, bodyBy, dumpedBy, dumpedSays, saysAt, saysOf}
 use Rattle.dumps.specs.Defined.{varsOf, bodyAt}
 use Rattle.changes.specs.declared.Mode.{Mode}
-use Rattle.changes.specs.declared.Mode.the-variants.{Between, Dumped, Skipped}
+use Rattle.changes.specs.declared.Mode.the-variants.{Between, Skipped}
 use Rattle.changes.specs.declared.Change.{Change}
 use Rattle.changes.specs.declared.Change.the-variants.{Time, Value, Moves, Breaks}
 use Rattle.changes.specs.Parts.{placeOf, changeMeant, movedBy}
+use Rattle.changes.proofs.Fitting.{Fitting, fits}
+use Rattle.changes.proofs.Meanings.{means-time, means-value, means-moves, means-breaks}
 
 -- A time by whether it is one.
 module _ (t : ℕ) where
@@ -80,10 +83,6 @@ moved-says : (r : Change) (step : Step) (x : Says) → r ≡ movedBy step → st
     → changeMeant r ≡ x
 moved-says r step x e h k = ap changeMeant (e ∙ ap movedBy (step-from step x h)) ∙ k
 
--- The characters behind the first.
-pub tail-whole : (w : List ℕ) → take (length w - 1) (drop 1 w) ≡ drop 1 w
-tail-whole w = take-all (length w - 1) (drop 1 w) (simp length-drop (omega arith))
-
 -- What a token says behind the definitions, by its first character.
 between-by : (r : Known) (w : List ℕ) → 0 < length w → r .spot .stage ≡ Body
     → saysAt place.Between r w ≡ bodyBy (eqb (getD w 0 0) hash) (isValue (getD w 0 0)) r (getD w 0 0) (drop 1 w)
@@ -104,7 +103,7 @@ module _ (dump w : List ℕ) (begun : Bool) (r : Change) (some : 0 < length w) w
   pub between-time : getD w 0 0 ≡ hash → changeMeant r ≡ timeSays (timeOf (take (length w - 1) (drop 1 w)))
       → changeMeant r ≡ saysOf (bodyAt dump place.Between begun) w
   unfolding saysOf
-  between-time h e = rw (between-by (bodyAt dump place.Between begun) w some refl, eq-eqb (getD w 0 0) hash h, ← tail-whole w) e
+  between-time h e = rw (between-by (bodyAt dump place.Between begun) w some refl, eq-eqb (getD w 0 0) hash h, ← tail-whole 1 w) e
 
   module _ (h : getD w 0 0 ≡ hash → ⊥) {v : Bool} (k : v ≡ isValue (getD w 0 0)) where
     pub between-value : v ≡ true → changeMeant r ≡ valueSays begun (marksOf (varsOf dump) (drop 1 w)) (getD w 0 0)
@@ -140,94 +139,20 @@ pub skipped-goes : (dump w : List ℕ) (begun : Bool) (r : Change) (step : Step)
 unfolding saysOf sectionSays
 skipped-goes dump w begun r step e f = moved-says r step _ e f (moved-skips (isEnd w))
 
--- A time that a token says is one.
-abbrev Timely : Says → Type 0
-Timely (moves spot) = Unit {0}
-Timely codes = Unit {0}
-Timely names = Unit {0}
-Timely defines = Unit {0}
-Timely (times t) = t ≤ highestTime
-Timely (puts c marks) = Unit {0}
-Timely breaks = Unit {0}
-
-time-timely : (t : ℕ) (b : Bool) → leb t highestTime ≡ b → Timely (sayBy b (times t))
-time-timely t true e = leb-true t highestTime e
-time-timely t false e = tt
-
-value-timely : (b : Bool) (c marks : ℕ) → Timely (sayBy b (puts c marks))
-value-timely true c marks = tt
-value-timely false c marks = tt
-
-opens-timely : (k : Keyword) → Timely (opens k Body)
-opens-timely Remark = tt
-opens-timely Comment = tt
-opens-timely Timescale = tt
-opens-timely Scope = tt
-opens-timely Var = tt
-opens-timely Upscope = tt
-opens-timely EndDefinitions = tt
-opens-timely Dumpvars = tt
-opens-timely End = tt
-opens-timely Other = tt
-
-skip-timely : (b : Bool) → Timely (skipBy b Body)
-skip-timely true = tt
-skip-timely false = tt
-
-end-timely : (b : Bool) → Timely (goBy b (record { stage = Body; place = place.Between }))
-end-timely true = tt
-end-timely false = tt
-
-body-timely : (hashed value : Bool) (r : Known) (c : ℕ) (cs : List ℕ) → Timely (bodyBy hashed value r c cs)
-unfolding sectionSays
-body-timely true value r c cs = time-timely (timeOf cs) (leb (timeOf cs) highestTime) refl
-body-timely false true r c cs = value-timely (r .begun && ltb 0 (marksOf (r .vars) cs)) c (marksOf (r .vars) cs)
-body-timely false false r c cs = opens-timely (keywordOf (c ∷ cs))
-
-dumped-timely : (value : Bool) (r : Known) (c : ℕ) (cs : List ℕ) → Timely (dumpedBy value r c cs)
-unfolding sectionSays
-dumped-timely true r c cs = value-timely (r .begun && ltb 0 (marksOf (r .vars) cs)) c (marksOf (r .vars) cs)
-dumped-timely false r c cs = end-timely (isEnd (c ∷ cs))
-
-says-timely : (dump : List ℕ) (mode : Mode) (begun : Bool) (w : List ℕ) → Timely (saysOf (bodyAt dump (placeOf mode) begun) w)
-unfolding saysOf sectionSays
-says-timely dump Between begun [] = tt
-says-timely dump Between begun (c ∷ cs) = body-timely (eqb c hash) (isValue c) (bodyAt dump place.Between begun) c cs
-says-timely dump Dumped begun [] = tt
-says-timely dump Dumped begun (c ∷ cs) = dumped-timely (isValue c) (bodyAt dump place.Values begun) c cs
-says-timely dump Skipped begun w = skip-timely (isEnd w)
-
 -- What follows a token behind the definitions: it is read on in the same way.
 module _ (dump w : List ℕ) (mode : Mode) (begun : Bool) (r : Change) (h : changeMeant r ≡ saysOf (bodyAt dump (placeOf mode) begun) w) where
   pub says-time : (t : ℕ) → r ≡ Time t → saysOf (bodyAt dump (placeOf mode) begun) w ≡ times t
-  unfolding changeMeant
-  says-time t e = sym h ∙ ap changeMeant e
+  says-time t e = sym h ∙ means-time r t e
 
   pub time-small : (t : ℕ) → r ≡ Time t → t ≤ highestTime
-  time-small t e = subst Timely (says-time t e) (says-timely dump mode begun w)
+  time-small t e = subst (Fitting mode begun) (says-time t e) (fits dump mode begun w) .1
 
   pub says-value : (c marks : ℕ) → r ≡ Value c marks → saysOf (bodyAt dump (placeOf mode) begun) w ≡ puts c marks
-  unfolding changeMeant
-  says-value c marks e = sym h ∙ ap changeMeant e
+  says-value c marks e = sym h ∙ means-value r c marks e
 
   pub says-moves : (next : Mode) → r ≡ Moves next
       → saysOf (bodyAt dump (placeOf mode) begun) w ≡ moves (record { stage = Body; place = placeOf next })
-  unfolding changeMeant
-  says-moves next e = sym h ∙ ap changeMeant e
+  says-moves next e = sym h ∙ means-moves r next e
 
   pub says-breaks : r ≡ Breaks → saysOf (bodyAt dump (placeOf mode) begun) w ≡ breaks
-  unfolding changeMeant
-  says-breaks e = sym h ∙ ap changeMeant e
-
-  pub after-time : (t : ℕ) → r ≡ Time t → after (bodyAt dump (placeOf mode) begun) w ≡ bodyAt dump (placeOf mode) true
-  unfolding afterBy
-  after-time t e = rw (says-time t e)
-
-  pub after-value : (c marks : ℕ) → r ≡ Value c marks
-      → after (bodyAt dump (placeOf mode) begun) w ≡ bodyAt dump (placeOf mode) begun
-  unfolding afterBy
-  after-value c marks e = rw (says-value c marks e)
-
-  pub after-moves : (next : Mode) → r ≡ Moves next → after (bodyAt dump (placeOf mode) begun) w ≡ bodyAt dump (placeOf next) begun
-  unfolding afterBy
-  after-moves next e = rw (says-moves next e)
+  says-breaks e = sym h ∙ means-breaks r e

@@ -1,1 +1,3 @@
 pub mod ChangeLaws
+pub mod Meanings
+pub mod Fitting

@@ -30,8 +30,6 @@ pub enum Change {
     Breaks,
 }
 
-const HASH: u8 = b'#';
-
 // A time line.
 fn time(digits: &[u8]) -> Change
     ensures { λ r. ⌜ changeMeant r ≡ timeSays (timeOf (now (digits .entry))) ⌝ }
@@ -104,7 +102,7 @@ pub fn change_of(dump: &[u8], table: &[u8], mode: Mode, begun: bool, word: &[u8]
     let first = word[0];
     match mode {
         Mode::Between => {
-            if first == HASH {
+            if first == times::HASH {
                 return time(&word[1..]);
             }
             if values::is_value(first) {

@@ -12,6 +12,7 @@ use Rattle.ground.specs.Kind.{kindOf}
 use Rattle.page.specs.Page.{emptyLoad, filledOf}
 use Rattle.timers.specs.Timers.{loadedOf}
 use Rattle.ground.specs.declared.kinds.Kind.{Kind}
+use Rattle.part.specs.Bench.{partOf}
 use Rattle.part.specs.declared.state.Timers.{Timers}
 use Rattle.part.specs.declared.state.Watchdog.{Watchdog}
 use Rattle.part.specs.declared.state.Wire.{Wire}
@@ -31,7 +32,7 @@ use Rattle.levels.specs.Level.{sclOf, wpOf, pinBy}
 use Rattle.part.specs.State.{withWatchdog}
 use Rattle.sample.specs.Sample.{startOf, heardBy, writtenBy, stopOf, byteStep}
 use Rattle.sample.proofs.Stops.{no-order, calm-stop, calm-saved}
-use Rattle.clocks.specs.Goes.{partOf, movedOf}
+use Rattle.clocks.specs.Goes.{movedOf}
 use Rattle.clocks.specs.Rooms.{Room, Begins, timersAt, baseOf, Tells}
 use Rattle.clocks.specs.Clocks.{wireAt, spokenOf, lineAt, seenAt, turnBy, fallenBy, fallenAt, cutAt, Comes, smallBy, Turned}
 use Rattle.clocks.specs.Stands.{Stands}

@@ -8,6 +8,7 @@ use native.Mathlib.Numerals.{add-one}
 use lib.ListN.{length, getD, length-set}
 use Rattle.ground.specs.Cases.{orZero}
 use Rattle.ground.specs.Kind.{kindOf}
+use Rattle.part.specs.Bench.{partOf}
 use Rattle.part.specs.declared.state.Timers.{Timers}
 use Rattle.part.specs.declared.state.Wire.{Wire}
 use Rattle.part.specs.declared.state.Device.{Device}
@@ -17,7 +18,7 @@ use Rattle.wire.specs.declared.Sign.{Sign}
 use Rattle.levels.specs.Level.{sclOf, wpOf, vccOf, answerOf}
 use Rattle.sample.specs.Sample.{heardBy, writtenBy}
 use Rattle.sample.specs.Run.{partStep}
-use Rattle.clocks.specs.Goes.{Goes, partOf, movedOf}
+use Rattle.clocks.specs.Goes.{Goes, movedOf}
 use Rattle.clocks.specs.Rooms.{Room, timersAt, baseOf, Tells}
 use Rattle.clocks.specs.Clocks.{wireAt, spokenOf, lineAt, clocksOf}
 use Rattle.clocks.specs.Stands.{stateAt, Stands}

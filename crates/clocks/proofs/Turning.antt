@@ -4,6 +4,7 @@ use mathlib.Core.Bool.{true, false, _&&_}
 use mathlib.Core.List.{List}
 use mathlib.Core.Path.{_≡_, ap, _∙_}
 use Rattle.timers.specs.Timers.{timedOf, suppliedOf}
+use Rattle.part.specs.Bench.{partOf}
 use Rattle.part.specs.declared.state.Timers.{Timers}
 use Rattle.part.specs.declared.state.Wire.{Wire}
 use Rattle.part.specs.declared.state.Device.{Device}
@@ -14,7 +15,7 @@ use Rattle.levels.specs.Level.{sclOf, sdaOf, wpOf, vccOf}
 use Rattle.sample.specs.Sample.{opensOf, heardBy, writtenBy, signIn, wiredOf}
 use Rattle.sample.specs.Run.{partStep}
 use Rattle.sample.proofs.Sampled.{step-heard, array-heard}
-use Rattle.clocks.specs.Goes.{partOf, movedOf}
+use Rattle.clocks.specs.Goes.{movedOf}
 use Rattle.clocks.proofs.Seeing.{Sees}
 
 module _ (s : State) (array : List ℕ) (e l : ℕ) (t t′ : Timers) (w w′ : Wire) (d : Device) (m : Load) where

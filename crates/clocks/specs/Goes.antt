@@ -11,10 +11,6 @@ use Rattle.part.specs.declared.state.Load.{Load}
 use Rattle.part.specs.declared.state.State.{State}
 use Rattle.sample.specs.Run.{Part, runOf, answersOf}
 
--- A state and its array.
-abbrev pub partOf : State → List ℕ → Part
-partOf s array = record { state = s; array = array }
-
 -- The state with all that the loops can change; part and select stay.
 abbrev pub movedOf : State → Timers → Wire → Device → Load → State
 movedOf s t w d l = withLoad (withDevice (withWire (withTimers s t) w) d) l

@@ -5,11 +5,12 @@ use mathlib.Core.List.{List}
 use mathlib.Core.Path.{_≡_}
 use lib.ListN.{length, getD}
 use Rattle.ground.specs.Kind.{kindOf}
+use Rattle.part.specs.Bench.{partOf}
 use Rattle.part.specs.declared.state.Device.{Device}
 use Rattle.part.specs.declared.state.Load.{Load}
 use Rattle.part.specs.declared.state.State.{State}
 use Rattle.address.specs.Talk.{sendsIn}
-use Rattle.clocks.specs.Goes.{Goes, partOf, movedOf}
+use Rattle.clocks.specs.Goes.{Goes, movedOf}
 use Rattle.clocks.specs.Clocks.{wireAt, spokenOf, turnOf}
 use Rattle.clocks.specs.Rooms.{Room, timersAt, baseOf}
 use Rattle.clocks.specs.declared.turns.Clocks.{Clocks}

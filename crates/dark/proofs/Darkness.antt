@@ -10,6 +10,7 @@ use Rattle.ground.specs.Cases.{orZero}
 use Rattle.ground.specs.Kind.{kindOf}
 use Rattle.timers.specs.Timers.{timedOf, suppliedOf}
 use Rattle.page.specs.Page.{emptyLoad}
+use Rattle.part.specs.Bench.{partOf}
 use Rattle.part.specs.declared.state.Timers.{Timers}
 use Rattle.part.specs.declared.state.Lines.{Lines}
 use Rattle.part.specs.declared.state.Wire.{Wire}
@@ -21,7 +22,7 @@ use Rattle.levels.specs.Level.{sclOf, sdaOf, vccOf, answerOf, pinBy}
 use Rattle.sample.specs.Sample.{opensOf, resetOf}
 use Rattle.sample.specs.Run.{Part, partStep}
 use Rattle.sample.proofs.Sampled.{step-reset, array-reset}
-use Rattle.clocks.specs.Goes.{Goes, partOf, movedOf}
+use Rattle.clocks.specs.Goes.{Goes, movedOf}
 use Rattle.clocks.specs.Rooms.{baseOf, Tells}
 use Rattle.dark.specs.Dark.{heldAt, quietAt, fallenOf, Dark, darkAt}
 use Rattle.clocks.proofs.Going.{goes-on}

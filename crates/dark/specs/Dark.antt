@@ -7,6 +7,7 @@ use lib.ListN.{length}
 use Rattle.ground.specs.Numbers.{resetHold}
 use Rattle.ground.specs.Kind.{kindOf}
 use Rattle.page.specs.Page.{emptyLoad}
+use Rattle.part.specs.Bench.{partOf}
 use Rattle.part.specs.declared.state.Device.{Device}
 use Rattle.part.specs.declared.state.Lines.{Lines}
 use Rattle.part.specs.declared.state.Timers.{Timers}
@@ -17,7 +18,7 @@ use Rattle.wire.specs.Sign.{cleanFrame}
 use Rattle.part.specs.State.{withControl}
 use Rattle.ends.specs.Ends.{endedOf}
 use Rattle.sample.specs.Sample.{latchedBy}
-use Rattle.clocks.specs.Goes.{Goes, partOf, movedOf}
+use Rattle.clocks.specs.Goes.{Goes, movedOf}
 use Rattle.dark.specs.declared.Dim.{Dim}
 
 -- The timers while VCC is low, but for the write time.

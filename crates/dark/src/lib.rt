@@ -8,7 +8,8 @@ use part::state::State;
 ghost use mathlib.Core.Path.{_≡_};
 ghost use Prim.Native.Nat.{_≤_};
 ghost use lib.ListN.{length};
-ghost use Rattle.clocks.specs.Goes.{Goes, partOf};
+ghost use Rattle.part.specs.Bench.{partOf};
+ghost use Rattle.clocks.specs.Goes.{Goes};
 ghost use Rattle.dark.specs.Dark.{Dark, Dims};
 
 // What such a sample changes, after a first one: the write time and the lines.

@@ -12,6 +12,7 @@ use native.Mathlib.Omega.{arith}
 use lib.ListN.{getD, take}
 use borrow.Author.Tests.{eqb-true, not-true, not-false}
 use Rattle.ground.proofs.Tests.{and-split}
+use Rattle.part.specs.Bench.{partOf}
 use Rattle.part.specs.declared.state.State.{State}
 use Rattle.levels.specs.Level.{answerOf}
 use Rattle.sample.specs.Sample.{stepOf, arrayOf}
@@ -19,7 +20,7 @@ use Rattle.sample.specs.Run.{Part, partStep, runOf, answersOf}
 use Rattle.demand3.specs.Sending.{Sent, nothing, sentOf}
 use Rattle.demand3.specs.Differ.{never, sample, reaches, firstReach, firstDiff, fetches, covers, firstCover, fetchesNone, EqualBut, FullLoad, sentAfter, SplitAt, Alike, Unfetched, Covered, TwoParts}
 use Rattle.demand3.proofs.Sent.TwoArrays.{arrays-kept, arrays-equal, array-silent, whole-kept}
-use Rattle.demand3.proofs.Sent.OneSample.{partOf, Beside, equal}
+use Rattle.demand3.proofs.Sent.OneSample.{Beside, equal}
 use Rattle.demand3.proofs.Sent.Reached.{same-but-out, beside-answers, beside-line, beside-silenced, beside-equal, beside-step}
 use Rattle.demand3.proofs.Sent.Shown.{shown}
 use Rattle.demand3.proofs.Sent.OneByte.{rows-stay}

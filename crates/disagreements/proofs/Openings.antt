@@ -26,7 +26,7 @@ use Rattle.pieces.specs.Marks.{leftFrom}
 use Rattle.pieces.specs.Promises.{Begins}
 use Rattle.places.specs.Places.{placesIn, placesOf, openBy, openVerdict}
 use Rattle.disagreements.specs.declared.Opened.{Opened}
-use Rattle.disagreements.specs.Promises.{partOf, Stands, Opens, PlaysOn, Reports}
+use Rattle.disagreements.specs.Promises.{partOfStand, Stands, Opens, PlaysOn, Reports}
 
 -- A dump that is accepted is so with the number of its samples.
 counted-by : (fs : List Fault) (count n : ℕ) → verdictBy fs count ≡ accepted n → count ≡ n
@@ -139,10 +139,10 @@ module _ (part select stored : ℕ) (dump array : List ℕ) where
     reports-accepted n found array′ row′ e x =
         let v = is-accepted (r .reply) (openVerdict part select stored dump array) n (o .reply) e in
         let s : r .stand .state ≡ poweredUp part select stored = o .state ∙ opened-power n v in
-        let p : partOf (r .stand) array ≡ atPower part select stored array =
+        let p : partOfStand (r .stand) array ≡ atPower part select stored array =
         λ i. record { state = s i; array = array }
         in
-        let i : placesIn (r .stand .next) (leftFrom dump (r .stand .mark)) (partOf (r .stand) array)
+        let i : placesIn (r .stand .next) (leftFrom dump (r .stand .mark)) (partOfStand (r .stand) array)
         ≡ placesIn 0 (samplesIn dump) (atPower part select stored array) =
         rw (o .next, o .left, p)
         in

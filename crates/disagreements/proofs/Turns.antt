@@ -22,7 +22,7 @@ use Rattle.places.specs.Places.{partAfterAll}
 use Rattle.places.specs.Parts.{Gathers}
 use Rattle.disagreements.specs.declared.Stand.{Stand}
 use Rattle.disagreements.specs.declared.Played.{Played}
-use Rattle.disagreements.specs.Promises.{partOf, Stands, Plays, PlaysOn}
+use Rattle.disagreements.specs.Promises.{partOfStand, Stands, Plays, PlaysOn}
 use Rattle.disagreements.proofs.Piecewise.{elapsed-length, levels-length, said-length, piece-judged, Playing, playing-starts, playing-ends, playing-on}
 
 -- A piece filled into rows.
@@ -59,7 +59,7 @@ module _ (dump : List ℕ) (s : Stand) (elapsed levels : List ℕ) (r : Filled) 
       (record { count = r .count; stand = record { state = q .state; mark = r .mark; next = s .next + r .count } }) array′ levels′
       (row′ ++ drop (r .count) answers)
   plays array answers g a b m q array′ row′ x =
-      let p : Part = partOf s array in
+      let p : Part = partOfStand s array in
       let ss : List Sample = take (r .count) (leftFrom dump (s .mark)) in
       let y : Replays (s .state) (elapsedOf ss) (levelsOf ss) array (take (r .count) answers) q array′ row′ =
       rw (piece-times dump (s .mark) elapsed levels r elapsed′ levels′ f, piece-bytes dump (s .mark) elapsed levels r elapsed′ levels′ f) at x
@@ -95,26 +95,26 @@ module _ (dump : List ℕ) (s : Stand) (elapsed levels : List ℕ) (r : Filled) 
 -- A piece that was played: the fronts of the rows are its level bytes and its answers.
 module _ (dump : List ℕ) (s : Stand) (array levels answers : List ℕ) (r : Played) (array′ levels′ answers′ : List ℕ)
     (x : Plays dump s array levels answers r array′ levels′ answers′) where
-  played-length : length (take (r .count) (leftFrom dump (s .mark))) ≡ r .count
+  pub played-length : length (take (r .count) (leftFrom dump (s .mark))) ≡ r .count
   played-length = let c = x .count in length-take-le (r .count) (leftFrom dump (s .mark)) (omega arith)
 
-  played-bytes : take (r .count) levels′ ≡ levelsOf (take (r .count) (leftFrom dump (s .mark)))
+  pub played-bytes : take (r .count) levels′ ≡ levelsOf (take (r .count) (leftFrom dump (s .mark)))
   played-bytes =
       ap (take (r .count)) (x .bytes)
       ∙ take-at _ _ (r .count) (levels-length (take (r .count) (leftFrom dump (s .mark))) ∙ played-length)
 
-  played-said : take (r .count) answers′
-      ≡ answersOf (elapsedOf (take (r .count) (leftFrom dump (s .mark)))) (levelsOf (take (r .count) (leftFrom dump (s .mark)))) (partOf s array)
+  pub played-said : take (r .count) answers′
+      ≡ answersOf (elapsedOf (take (r .count) (leftFrom dump (s .mark)))) (levelsOf (take (r .count) (leftFrom dump (s .mark)))) (partOfStand s array)
   played-said =
       ap (take (r .count)) (x .said)
-      ∙ take-at _ _ (r .count) (said-length (take (r .count) (leftFrom dump (s .mark))) (partOf s array) ∙ played-length)
+      ∙ take-at _ _ (r .count) (said-length (take (r .count) (leftFrom dump (s .mark))) (partOfStand s array) ∙ played-length)
 
   pub front-bytes : r .count ≡ length (take (r .count) levels′)
   front-bytes = sym (ap length played-bytes ∙ levels-length (take (r .count) (leftFrom dump (s .mark))) ∙ played-length)
 
   pub front-said : r .count ≡ length (take (r .count) answers′)
   front-said =
-      sym (ap length played-said ∙ said-length (take (r .count) (leftFrom dump (s .mark))) (partOf s array) ∙ played-length)
+      sym (ap length played-said ∙ said-length (take (r .count) (leftFrom dump (s .mark))) (partOfStand s array) ∙ played-length)
 
   -- As long as there are samples, fewer are left behind each piece.
   pub left-less : (r .count ≡ 0 → ⊥) → length (leftFrom dump (r .stand .mark)) < length (leftFrom dump (s .mark))
@@ -133,7 +133,7 @@ pub record Turning (dump : List ℕ) (s₀ : Stand) (array₀ row₀ elapsed₀ 
   pub times : length elapsed ≡ length elapsed₀
   pub bytes : length levels ≡ length levels₀
   pub said : length answers ≡ length answers₀
-  pub playing : Playing (s₀ .next) (leftFrom dump (s₀ .mark)) (partOf s₀ array₀) row₀ (s .next) (leftFrom dump (s .mark)) (partOf s array) row found
+  pub playing : Playing (s₀ .next) (leftFrom dump (s₀ .mark)) (partOfStand s₀ array₀) row₀ (s .next) (leftFrom dump (s .mark)) (partOfStand s array) row found
 
 no-samples : (ss : List Sample) → length ss ≡ 0 → ss ≡ []
 no-samples [] h = refl
@@ -182,5 +182,5 @@ module _ (dump : List ℕ) (s₀ : Stand) (array₀ row₀ elapsed₀ levels₀ 
     turn-ends h e =
         let c = x .count in
         let z = playing-ends _ _ _ _ _ _ _ _ _ (t .playing) (no-samples (leftFrom dump (s .mark)) (omega arith)) in
-        let q : partAfterAll (take (r .count) (leftFrom dump (s .mark))) (partOf s array) ≡ partOf s array = rw e in
+        let q : partAfterAll (take (r .count) (leftFrom dump (s .mark))) (partOfStand s array) ≡ partOfStand s array = rw e in
         record { count = z .0; said = z .1; kept = ap (λ (p : Part). p .array) (x .part ∙ q ∙ z .2) }

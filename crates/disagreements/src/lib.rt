@@ -6,6 +6,7 @@ use pieces::Mark;
 ghost use mathlib.Core.Path.{_≡_};
 ghost use Prim.Native.Nat.{_≤_};
 ghost use lib.ListN.{length};
+ghost use Rattle.ground.specs.Numbers.{mostSamples};
 ghost use Rattle.disagreements.specs.Promises.{Opens, Plays, PlaysOn, Reports, Stands};
 
 // The samples of a piece, as the report takes them: rows of this length are quick, and where the cuts fall makes no difference.
@@ -81,7 +82,7 @@ pub fn play(
     requires { ⌜ Stands (now dump) stand (now array) ⌝ }
     requires { ⌜ length (now elapsed) ≡ length (now levels) ⌝ }
     requires { ⌜ length (now answers) ≡ length (now levels) ⌝ }
-    requires { ⌜ length (now levels) ≤ 65536 ⌝ }
+    requires { ⌜ length (now levels) ≤ mostSamples ⌝ }
     ensures { λ r. ⌜ Plays (now (dump .entry)) stand (now (array .entry)) (now (levels .entry)) (now (answers .entry)) r (now (array .exit)) (now (levels .exit)) (now (answers .exit)) ⌝ }
 {
     let filled = pieces::fill(dump, stand.mark, elapsed, levels);

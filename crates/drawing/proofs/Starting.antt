@@ -3,26 +3,16 @@ use Prim.Native.Nat.{ℕ, _+_, _≤_}
 use mathlib.Core.List.{List, [], _∷_, _++_, append-assoc}
 use mathlib.Core.Path.{_≡_, ap, sym, _∙_}
 use native.Mathlib.Omega.{arith}
-use native.Mathlib.Nat.{zero-add}
 use lib.ListN.{length, set, length-append}
-use lib.Seq.{sets, sets-eq, length-sets, length-take-le}
+use lib.Seq.{sets}
+use Rattle.codes.specs.Codes.{hash}
 use Rattle.ground.proofs.Rows.{sets-append}
 use Rattle.texts.specs.Numbers.{decimalOf}
 use Rattle.texts.specs.Laying.{Starts, Lays}
+use Rattle.texts.proofs.Starting.{starts-laid}
 use Rattle.drawing.specs.Wires.{firstCode}
-use Rattle.drawing.specs.Drawing.{hash, valuesOf, sampleText}
+use Rattle.drawing.specs.Drawing.{valuesOf, sampleText}
 use Rattle.drawing.specs.declared.Drawn.{Drawn}
-
--- A text laid at the start of a buffer that has room for it.
-starts-laid : (text out out′ : List ℕ) (r : ℕ) → out′ ≡ sets out 0 text → r ≡ length text → r ≤ length out → Starts text out r out′
-starts-laid text out out′ r e f h =
-    let n : length out′ ≡ length out = ap length e ∙ length-sets out 0 text in
-    let k : 0 + length text ≤ length out = omega arith in
-    record {
-      shown = e ∙ sets-eq text out 0 k ∙ rw (zero-add, f);
-      count = f;
-      fits = (omega arith, sym (length-take-le r out′ (omega arith)));
-    }
 
 -- Hash, time, line feed and values, laid one after the other.
 pub sample-starts : (d n : Drawn) (out ts vs : List ℕ) (end r : ℕ) → Lays (decimalOf (n .time)) (set out 0 hash) 1 end ts → end ≤ 1 + 20

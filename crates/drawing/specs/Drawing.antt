@@ -1,20 +1,17 @@
--- A sample as lines of a dump: a time line, then the values that changed (request 2026-03; IEEE 1364).
+-- A sample as lines of a dump: a time line, then the values that changed (docs/DECISIONS.md, "2026-03, the picture"; IEEE 1364).
 use Prim.Native.Nat.{ℕ, _+_, min}
 use mathlib.Core.Bool.{Bool, true, false, _&&_, Bool·beq}
 use mathlib.Core.List.{List, [], _∷_, _++_}
 use mathlib.Core.Path.{_≡_}
 use lib.Dec.{eqb}
 use lib.ListN.{replicate}
+use Rattle.codes.specs.Codes.{hash}
 use Rattle.lines.specs.Lines.{lineFeed}
 use Rattle.texts.specs.Numbers.{decimalOf}
 use Rattle.texts.specs.Laying.{Starts}
 use Rattle.drawing.specs.Wires.{firstCode, ownOf, levelsOf}
 use Rattle.drawing.specs.declared.Drawn.{Drawn}
 use Rattle.drawing.specs.declared.Put.{Put}
-
--- The character that a time line begins with.
-abbrev pub hash : ℕ
-hash = 0x23
 
 -- The character of a level: 1 where it is high, else 0.
 abbrev pub figureOf : Bool → ℕ
@@ -32,7 +29,8 @@ valuesOf begun letter [] ns = []
 valuesOf begun letter (b ∷ bs) [] = []
 valuesOf begun letter (b ∷ bs) (n ∷ ns) = valueBy (begun && Bool·beq b n) letter n ++ valuesOf begun (letter + 1) bs ns
 
--- How far apart two samples are drawn: 1 where no time elapsed, since a dump has room for one sample at a time.
+-- How far apart two samples are drawn: 1 where no time elapsed, since a dump has room for one sample at a time (2026-03,
+-- refusal 22: times rise).
 abbrev pub apartBy : Bool → ℕ → ℕ
 apartBy true e = 1
 apartBy false e = e

@@ -1,19 +1,18 @@
 -- The verdict on a dump is the least of its faults. Assumes nothing.
 use Prim.Native.Nat.{ℕ, suc, _≤_}
-use mathlib.Core.Bool.{Bool, true, false, _&&_, _||_}
-use mathlib.Core.List.{List, [], _∷_, List·Memᴰ, List·Memᴰ·head, List·Memᴰ·tail, List·Memᴰ·cases-cons, List·Memᴰ·not-nil, Memᴰ·cast}
+use mathlib.Core.Bool.{Bool, true, false, _&&_}
+use mathlib.Core.List.{List, [], _∷_, List·Memᴰ, List·Memᴰ·head, List·Memᴰ·tail, List·Memᴰ·cases-cons, List·Memᴰ·not-nil}
 use mathlib.Core.Logic.{_⊎_, inl, inr, ⊎-elim}
-use mathlib.Core.Path.{_≡_, refl, ap, sym, _∙_}
+use mathlib.Core.Path.{_≡_, refl, sym, _∙_}
 use native.Mathlib.Omega.{arith}
 use lib.Dec.{eqb, ltb, leb}
 use lib.ListN.{length}
-use borrow.Author.Tests.{ltb-true, ltb-false, leb-true, leb-false, eqb-true, lt-ltb, le-leb, eq-eqb}
+use borrow.Author.Tests.{ltb-true, ltb-false, leb-true, leb-false, eqb-true, le-leb, eq-eqb}
 use Rattle.ground.proofs.Tests.{and-split, or-split}
-use Rattle.ground.specs.Verdict.{Verdict, accepted, refused}
-use Rattle.ground.proofs.Verdicts.{apart}
+use Rattle.ground.specs.Verdict.{accepted, refused}
 use Rattle.dumps.specs.Samples.{samplesIn}
 use Rattle.dumps.specs.Faults.{Fault, faultsOf, comesFirst, firstBy, first, leastFrom, verdictBy, dumpVerdict}
-use Rattle.dump_cases.specs.Least.{First, LeastFault}
+use Rattle.dump_cases.specs.Least.{LeastFault}
 
 -- Two faults in their order, as facts on numbers.
 abbrev Before : Fault → Fault → Type 0

@@ -3,9 +3,8 @@
 use Prim.Native.Nat.{ℕ, _+_, _*_, _≤_}
 use mathlib.Core.List.{List, [], _∷_, _++_}
 use mathlib.Core.Path.{_≡_}
-use lib.ListN.{replicate}
 use Rattle.codes.specs.Codes.{codesOf}
-use Rattle.ground.specs.Verdict.{Verdict, accepted, refused}
+use Rattle.ground.specs.Verdict.{accepted, refused}
 use Rattle.dumps.specs.Samples.{Sample, samplesIn, repeatsOf, restOf}
 use Rattle.dumps.specs.Faults.{dumpVerdict}
 

@@ -1,11 +1,11 @@
 -- Pieces of a dump joined are one run over all its samples. Assumes nothing.
-use Prim.Native.Nat.{ℕ, _+_, _≤_, min}
-use mathlib.Core.List.{List, [], _∷_, _++_}
-use mathlib.Core.Path.{_≡_, refl, ap, sym, _∙_}
+use Prim.Native.Nat.{ℕ, _+_, _≤_}
+use mathlib.Core.List.{List, [], _++_}
+use mathlib.Core.Path.{_≡_, ap, sym, _∙_}
 use native.Mathlib.Omega.{arith}
 use native.Mathlib.Nat.{zero-add}
 use lib.ListN.{length, take, drop, take-append-drop}
-use lib.Seq.{length-take-le, take-at}
+use lib.Seq.{length-take-le}
 use Rattle.ground.specs.Verdict.{accepted}
 use Rattle.part.specs.declared.state.State.{State}
 use Rattle.sample.specs.Run.{Part, answersOf}
@@ -17,23 +17,11 @@ use Rattle.places.proofs.PlaceLaws.{places-ascend}
 use Rattle.disagreements.specs.declared.Stand.{Stand}
 use Rattle.disagreements.specs.declared.Opened.{Opened}
 use Rattle.disagreements.specs.declared.Played.{Played}
-use Rattle.disagreements.specs.Promises.{partOf, Opens, Plays}
+use Rattle.disagreements.specs.Promises.{partOfStand, Opens, Plays}
 use Rattle.disagreements.proofs.Openings.{opened-power}
-use Rattle.disagreements.proofs.Piecewise.{levels-length, said-length, after-append, in-append}
+use Rattle.disagreements.proofs.Piecewise.{levels-length, after-append, in-append}
+use Rattle.disagreements.proofs.Turns.{played-bytes, played-said}
 use Rattle.dump_claims.specs.Pieces.{Chain, none, piece, JoinedPieces}
-
--- The rows of a piece tell the places of its samples.
-rows-tell : (k n : ℕ) (ss : List Sample) (p : Part) (levels answers more rest : List ℕ) → n ≤ length ss
-    → levels ≡ levelsOf (take n ss) ++ more → answers ≡ answersOf (elapsedOf (take n ss)) (levelsOf (take n ss)) p ++ rest
-    → placesFrom k (take n levels) (take n answers) ≡ placesIn k (take n ss) p
-rows-tell k n ss p levels answers more rest h e f =
-    let m : length (take n ss) ≡ n = length-take-le n ss h in
-    rw (
-      e,
-      f,
-      take-at (levelsOf (take n ss)) more n (levels-length (take n ss) ∙ m),
-      take-at (answersOf (elapsedOf (take n ss)) (levelsOf (take n ss)) p) rest n (said-length (take n ss) p ∙ m),
-    )
 
 -- The places of samples cut in two, and the part behind them.
 pub cut-places : (k n : ℕ) (ss : List Sample) (p : Part) → n ≤ length ss
@@ -54,34 +42,39 @@ module _ (dump : List ℕ) (s : Stand) (array levels answers : List ℕ) (r : Pl
   few : r .count ≤ length (leftFrom dump (s .mark))
   few = let c = x .count in omega arith
 
+  -- Its rows tell the places of its samples.
   told : placesFrom (s .next) (take (r .count) levels′) (take (r .count) answers′)
-      ≡ placesIn (s .next) (take (r .count) (leftFrom dump (s .mark))) (partOf s array)
-  told = rows-tell (s .next) (r .count) (leftFrom dump (s .mark)) (partOf s array) levels′ answers′ _ _ few (x .bytes) (x .said)
+      ≡ placesIn (s .next) (take (r .count) (leftFrom dump (s .mark))) (partOfStand s array)
+  told =
+      rw (
+        played-bytes dump s array levels answers r array′ levels′ answers′ x,
+        played-said dump s array levels answers r array′ levels′ answers′ x,
+      )
 
-  piece-places : (ps : List ℕ) → ps ≡ placesIn (r .stand .next) (leftFrom dump (r .stand .mark)) (partOf (r .stand) array′)
+  piece-places : (ps : List ℕ) → ps ≡ placesIn (r .stand .next) (leftFrom dump (r .stand .mark)) (partOfStand (r .stand) array′)
       → placesFrom (s .next) (take (r .count) levels′) (take (r .count) answers′) ++ ps
-      ≡ placesIn (s .next) (leftFrom dump (s .mark)) (partOf s array)
+      ≡ placesIn (s .next) (leftFrom dump (s .mark)) (partOfStand s array)
   piece-places ps e =
-      rw (told, e, x .next, x .left, x .part) (cut-places (s .next) (r .count) (leftFrom dump (s .mark)) (partOf s array) few)
+      rw (told, e, x .next, x .left, x .part) (cut-places (s .next) (r .count) (leftFrom dump (s .mark)) (partOfStand s array) few)
 
-  piece-part : (q : Part) → q ≡ partAfterAll (leftFrom dump (r .stand .mark)) (partOf (r .stand) array′)
-      → q ≡ partAfterAll (leftFrom dump (s .mark)) (partOf s array)
-  piece-part q e = e ∙ rw (x .left, x .part) (cut-part (r .count) (leftFrom dump (s .mark)) (partOf s array))
+  piece-part : (q : Part) → q ≡ partAfterAll (leftFrom dump (r .stand .mark)) (partOfStand (r .stand) array′)
+      → q ≡ partAfterAll (leftFrom dump (s .mark)) (partOfStand s array)
+  piece-part q e = e ∙ rw (x .left, x .part) (cut-part (r .count) (leftFrom dump (s .mark)) (partOfStand s array))
 
 -- All pieces.
 whole : (dump : List ℕ) (s t : Stand) (array array′ ps : List ℕ) → Chain dump s array ps t array′ → leftFrom dump (t .mark) ≡ []
-    → (ps ≡ placesIn (s .next) (leftFrom dump (s .mark)) (partOf s array))
-    × (partOf t array′ ≡ partAfterAll (leftFrom dump (s .mark)) (partOf s array))
+    → (ps ≡ placesIn (s .next) (leftFrom dump (s .mark)) (partOfStand s array))
+    × (partOfStand t array′ ≡ partAfterAll (leftFrom dump (s .mark)) (partOfStand s array))
 whole dump s t array array′ ps none h = (rw h, rw h)
 whole dump s t array array″ ps (piece {array′ = array′} {ps = qs} levels answers r levels′ answers′ x c) h =
     let w = whole dump (r .stand) t array′ array″ qs c h in (
       piece-places dump s array levels answers r array′ levels′ answers′ x qs (w .0),
-      piece-part dump s array levels answers r array′ levels′ answers′ x (partOf t array″) (w .1),
+      piece-part dump s array levels answers r array′ levels′ answers′ x (partOfStand t array″) (w .1),
     )
 
 -- A part that an accepted opening leaves is that of power-up.
 from-power : (part select stored : ℕ) (dump array : List ℕ) (r : Opened) (n : ℕ) → Opens part select stored dump array r
-    → openVerdict part select stored dump array ≡ accepted n → partOf (r .stand) array ≡ atPower part select stored array
+    → openVerdict part select stored dump array ≡ accepted n → partOfStand (r .stand) array ≡ atPower part select stored array
 from-power part select stored dump array r n x v =
     ap (λ (w : State). record { state = w; array = array }) (x .state ∙ opened-power part select stored dump array n v)
 

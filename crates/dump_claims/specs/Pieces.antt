@@ -17,7 +17,7 @@ use Rattle.places.specs.Parts.{ascending}
 use Rattle.disagreements.specs.declared.Stand.{Stand}
 use Rattle.disagreements.specs.declared.Opened.{Opened}
 use Rattle.disagreements.specs.declared.Played.{Played}
-use Rattle.disagreements.specs.Promises.{partOf, Opens, Plays}
+use Rattle.disagreements.specs.Promises.{partOfStand, Opens, Plays}
 
 -- Pieces played one after the other, from a stand and an array to others, with the places that their rows tell.
 pub data Chain (dump : List ℕ) : Stand → List ℕ → List ℕ → Stand → List ℕ → Type 0 where
@@ -29,16 +29,16 @@ pub data Chain (dump : List ℕ) : Stand → List ℕ → List ℕ → Stand →
 -- The claim (2026-03, piece after piece; the report gives places ascending, each once).
 pub record JoinedPieces : Type 0 where
   pub whole : (dump : List ℕ) (s t : Stand) (array array′ ps : List ℕ) → Chain dump s array ps t array′ → leftFrom dump (t .mark) ≡ []
-      → (ps ≡ placesIn (s .next) (leftFrom dump (s .mark)) (partOf s array))
-      × (partOf t array′ ≡ partAfterAll (leftFrom dump (s .mark)) (partOf s array))
+      → (ps ≡ placesIn (s .next) (leftFrom dump (s .mark)) (partOfStand s array))
+      × (partOfStand t array′ ≡ partAfterAll (leftFrom dump (s .mark)) (partOfStand s array))
   -- wherever the cuts fall
   pub cuts : (dump : List ℕ) (s t u : Stand) (array array₁ array₂ ps qs : List ℕ)
       → Chain dump s array ps t array₁ → leftFrom dump (t .mark) ≡ [] → Chain dump s array qs u array₂ → leftFrom dump (u .mark) ≡ []
-      → (ps ≡ qs) × (partOf t array₁ ≡ partOf u array₂)
+      → (ps ≡ qs) × (partOfStand t array₁ ≡ partOfStand u array₂)
   pub from-power-up : (part select stored : ℕ) (dump array : List ℕ) (r : Opened) (t : Stand) (array′ ps : List ℕ) (n : ℕ)
       → Opens part select stored dump array r → openVerdict part select stored dump array ≡ accepted n
       → Chain dump (r .stand) array ps t array′ → leftFrom dump (t .mark) ≡ []
       → (ps ≡ placesOf part select stored dump array)
-      × (partOf t array′ ≡ partAfterAll (samplesIn dump) (atPower part select stored array))
+      × (partOfStand t array′ ≡ partAfterAll (samplesIn dump) (atPower part select stored array))
   pub ascending : (part select stored : ℕ) (dump array : List ℕ)
       → ascending 0 (length (samplesIn dump)) (placesOf part select stored dump array) ≡ true

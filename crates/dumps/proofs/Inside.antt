@@ -2,7 +2,6 @@
 use Prim.Native.Nat.{ℕ}
 use mathlib.Core.Bool.{Bool, true, false, not, _&&_, true≢false}
 use mathlib.Core.List.{List, [], _∷_}
-use lib.Dec.{ltb}
 use mathlib.Core.Path.{_≡_, refl, sym, subst, _∙_}
 use Rattle.sections.specs.declared.Keyword.{Keyword}
 use Rattle.sections.specs.declared.Keyword.the-variants.{Remark, Comment, Timescale, Scope, Upscope, EndDefinitions, Dumpvars, End, Other}
@@ -17,7 +16,7 @@ use Rattle.wires.specs.Wires.{Var}
 use Rattle.dumps.specs.Reading.{Known, saysOf, afterBy, isBetween}
 use Rattle.dumps.specs.Defined.{definedFrom, varsOf, bodyAt}
 use Rattle.dumps.specs.Samples.{momentsFrom, samplesBy, samplesFrom}
-use Rattle.dumps.specs.Faults.{Heard, unheard, heardBy, lacks, faultBy, isWrong, endBy, endFault, note, faultsFrom}
+use Rattle.dumps.specs.Faults.{Heard, unheard, heardBy, unfinished, faultBy, isWrong, endBy, endFault, note, faultsFrom}
 use Rattle.dumps.proofs.Taken.{faults-token, samples-token, defined-token}
 use Rattle.dumps.proofs.Silent.{wrongAt}
 
@@ -222,7 +221,7 @@ ends-by Wrong b p = absurd (true≢false (sym p))
 pub ends-inside : (stage : Stage) (place : Place) (code : List ℕ) (vars : List Var) (h : Heard) → inside place ≡ true
     → isBody stage && isBetween place ≡ false → endFault (heading stage place code vars) h ≡ 20
 unfolding endFault
-ends-inside stage place code vars h p d = rw d (ends-by place (ltb (h .lines) 2 && lacks h) p)
+ends-inside stage place code vars h p d = rw d (ends-by place (unfinished (h .lines) (h .given)) p)
 
 -- Where the definitions are over, the reading is the one from which the rest is read.
 over-by : (stage : Stage) (place : Place) (code : List ℕ) (vars : List Var) → isBody stage && isBetween place ≡ true

@@ -8,12 +8,7 @@ use Rattle.sections.specs.Sections.{Says}
 use Rattle.dumps.specs.Reading.{Known, saysOf, afterBy}
 use Rattle.dumps.specs.Defined.{isDefined, definedFrom}
 use Rattle.dumps.specs.Samples.{momentsBy, momentsFrom, samplesBy, samplesFrom}
-use Rattle.dumps.specs.Faults.{Fault, Heard, heardBy, faultBy, note, faultsFrom}
-
--- No fault is put before none.
-pub note-none : (line : ℕ) (fs : List Fault) → note line 0 fs ≡ fs
-unfolding note
-note-none line fs = refl
+use Rattle.dumps.specs.Faults.{Heard, heardBy, faultBy, note, faultsFrom}
 
 -- Its fault stands before those of the tokens behind it.
 pub faults-token : (r : Known) (h : Heard) (t : Token) (ts : List Token) (last : ℕ) {s : Says} → saysOf r (t .word) ≡ s

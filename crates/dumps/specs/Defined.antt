@@ -4,13 +4,12 @@ use mathlib.Core.Bool.{Bool, true, false, _&&_}
 use mathlib.Core.List.{List, [], _∷_}
 use Rattle.sections.specs.declared.Stage.the-variants.{Body}
 use Rattle.sections.specs.declared.Place.{Place}
-use Rattle.sections.specs.declared.Place.the-variants.{Between}
 use Rattle.sections.specs.Sections.{isBody}
 use Rattle.tokens.specs.Tokens.{wordsOf}
 use Rattle.wires.specs.Wires.{Var}
 use Rattle.dumps.specs.Reading.{Known, unread, after, isBetween}
 
--- Whether the definitions are over and no section is entered.
+-- Whether the definitions are over and no section is entered (2026-03, enddefinitions).
 abbrev pub isDefined : Known → Bool
 isDefined r = isBody (r .spot .stage) && isBetween (r .spot .place)
 
@@ -19,6 +18,7 @@ abbrev pub definedBy : Bool → Known → Known → Known
 definedBy true r rest = r
 definedBy false r rest = rest
 
+-- The same from a reading on, token after token (2026-03, var).
 abbrev pub definedFrom : Known → List (List ℕ) → Known
 definedFrom r [] = r
 definedFrom r (w ∷ ws) = definedBy (isDefined r) r (definedFrom (after r w) ws)

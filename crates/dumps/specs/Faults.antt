@@ -1,11 +1,10 @@
 -- The faults of a dump, and its verdict (request 2026-03, refusals 20 to 23; docs/DECISIONS.md, "2026-03, faults").
 use Prim.Native.Nat.{ℕ, suc, _+_}
 use mathlib.Core.Bool.{Bool, true, false, _&&_, _||_, not}
-use mathlib.Core.List.{List, [], _∷_, _++_}
+use mathlib.Core.List.{List, [], _∷_}
 use lib.Dec.{eqb, ltb, leb}
 use lib.ListN.{length}
 use Rattle.ground.specs.Verdict.{Verdict, accepted, refused}
-use Rattle.sections.specs.declared.Stage.{Stage}
 use Rattle.sections.specs.declared.Place.{Place}
 use Rattle.sections.specs.declared.Place.the-variants.{Between, Skipped, ScaleNumber, ScaleUnit, ScopeKind, ScopeName, VarKind, VarWidth, VarCode, VarName, Close, Values, Wrong}
 use Rattle.sections.specs.Sections.{Says, moves, codes, names, defines, times, puts, breaks}
@@ -26,7 +25,7 @@ pub record Heard : Type 0 where
 abbrev pub unheard : Heard
 unheard = record { lines = 0; time = 0; given = 0 }
 
--- A time line counts and its time is the latest; a value gives its wires one.
+-- A time line counts and its time is the latest; a value gives its wires one (2026-03, refusals 22 and 23).
 unfoldable pub heardBy : Says → Heard → Heard
 heardBy (moves spot) h = h
 heardBy codes h = h
@@ -46,9 +45,18 @@ abbrev pub timeFault : Bool → Bool → ℕ
 timeFault true incomplete = 22
 timeFault false incomplete = faultIf incomplete 23
 
--- Whether a wanted wire has no value.
-abbrev pub lacks : Heard → Bool
-lacks h = not (eqb (h .given) allWires)
+-- Whether a wanted wire is not among those with a value (2026-03, refusal 23: a wanted wire without one).
+abbrev pub lacking : ℕ → Bool
+lacking given = not (eqb given allWires)
+
+-- The fault of a time line behind so many others: 22 where its time is not above the one before, 23 where it is the second and a wire has no
+-- value (2026-03, refusals 22 and 23).
+abbrev pub lateOf : ℕ → ℕ → ℕ → ℕ → ℕ
+lateOf lines before given time = timeFault (ltb 0 lines && leb time before) (eqb lines 1 && lacking given)
+
+-- Whether a dump ends before its second time line, which asks for all wires, and one has no value (2026-03, refusal 23: at the end).
+abbrev pub unfinished : ℕ → ℕ → Bool
+unfinished lines given = ltb lines 2 && lacking given
 
 -- The fault of a token, by what it says: 20 malformed; 21 a wanted name a second time, or one that is missing at the end of the
 -- definitions; 22 a time not above the one before; 23 a value that its wire does not take, or a wire without one at the second time line
@@ -58,18 +66,18 @@ faultBy (moves spot) r h w = 0
 faultBy codes r h w = 0
 faultBy names r h w = faultIf (hasWire (namedOf (r .vars)) (weightOf w)) 21
 faultBy defines r h w = faultIf (not (eqb (namedOf (r .vars)) allWires)) 21
-faultBy (times t) r h w = timeFault (ltb 0 (h .lines) && leb t (h .time)) (eqb (h .lines) 1 && lacks h)
+faultBy (times t) r h w = lateOf (h .lines) (h .time) (h .given) t
 faultBy (puts c marks) r h w = faultIf (unfit c marks) 23
 faultBy breaks r h w = 20
 
 -- At the end of the dump: 20 inside a section or before the definitions ended, 23 where fewer than two time lines left a wire without a
 -- value; nothing more behind a malformed token (2026-03, refusals: at the end).
 abbrev pub endBy : Bool → Bool → Bool → ℕ
-endBy true whole lacking = 0
-endBy false false lacking = 20
-endBy false true lacking = faultIf lacking 23
+endBy true whole short = 0
+endBy false false short = 20
+endBy false true short = faultIf short 23
 
--- Whether nothing counts any more behind a malformed token.
+-- Whether a place is behind a malformed token, where nothing counts any more (2026-03, faults).
 abbrev pub isWrong : Place → Bool
 isWrong Between = false
 isWrong Skipped = false
@@ -88,9 +96,9 @@ isWrong Wrong = true
 -- The fault at the end (2026-03, refusals: at the end).
 unfoldable pub endFault : Known → Heard → ℕ
 endFault r h =
-    endBy (isWrong (r .spot .place)) (isDefined r) (ltb (h .lines) 2 && lacks h)
+    endBy (isWrong (r .spot .place)) (isDefined r) (unfinished (h .lines) (h .given))
 
--- A fault: its number, and its line, counted from 0.
+-- A fault: its number, and its line, counted from 0 (2026-03, tokens: the line of a fault).
 pub record Fault : Type 0 where
   pub line : ℕ
   pub number : ℕ
@@ -124,7 +132,7 @@ abbrev pub firstBy : Bool → Fault → Fault → Fault
 firstBy true f g = f
 firstBy false f g = g
 
--- The first of two by their order.
+-- The first of two by their order (2026-03, in this order at one line, the earliest line first).
 unfoldable pub first : Fault → Fault → Fault
 first f g = firstBy (comesFirst f g) f g
 

@@ -4,11 +4,11 @@ use Prim.Native.Nat.{ℕ}
 use mathlib.Core.Bool.{Bool, true, false, _&&_}
 use mathlib.Core.List.{List, [], _∷_}
 use lib.Dec.{eqb, ltb, leb}
+use Rattle.codes.specs.Codes.{hash}
 use Rattle.sections.specs.declared.Stage.{Stage}
 use Rattle.sections.specs.declared.Stage.the-variants.{Start, Scaled, Scoped, Closed, Body}
 use Rattle.sections.specs.declared.Place.{Place}
 use Rattle.sections.specs.declared.Place.the-variants.{Between, Skipped, ScaleNumber, ScaleUnit, ScopeKind, ScopeName, VarKind, VarWidth, VarCode, VarName, Close, Values, Wrong}
-use Rattle.sections.specs.Spelling.{isEnd}
 use Rattle.sections.specs.Sections.{Spot, Says, moves, codes, names, defines, times, puts, breaks, sayBy, sectionSays}
 use Rattle.wires.specs.Wires.{Var, marksOf}
 use Rattle.wires.specs.Times.{highestTime, timeOf}
@@ -42,10 +42,6 @@ isBetween Close = false
 isBetween Values = false
 isBetween Wrong = false
 
--- The sign before a time (2026-03, each time line).
-abbrev pub hash : ℕ
-hash = 0x23
-
 -- A time line, if it is one (2026-03, refusal 20: time over 4,294,967,295).
 abbrev pub timeSays : ℕ → Says
 timeSays t = sayBy (leb t highestTime) (times t)
@@ -70,11 +66,12 @@ abbrev pub dumpedBy : Bool → Known → ℕ → List ℕ → Says
 dumpedBy true r c cs = valueSays (r .begun) (marksOf (r .vars) cs) c
 dumpedBy false r c cs = sectionSays Values Body (c ∷ cs)
 
+-- The same by its first character (2026-03, dumpvars: values alone inside).
 abbrev pub dumpedSays : Known → List ℕ → Says
 dumpedSays r [] = breaks
 dumpedSays r (c ∷ cs) = dumpedBy (isValue c) r c cs
 
--- Only behind the definitions does a token between sections give times and values.
+-- Only behind the definitions does a token between sections give times and values (2026-03, sections: after the definitions).
 abbrev pub betweenSays : Stage → Known → List ℕ → Says
 betweenSays Start r w = sectionSays Between Start w
 betweenSays Scaled r w = sectionSays Between Scaled w
@@ -106,7 +103,7 @@ saysOf r w = saysAt (r .spot .place) r w
 abbrev pub withSpot : Known → Stage → Place → Known
 withSpot r stage place = record { spot = record { stage = stage; place = place }; code = r .code; vars = r .vars; begun = r .begun }
 
--- What is known behind a token, by what it said; behind a malformed one nothing counts any more.
+-- What is known behind a token, by what it said; behind a malformed one nothing counts any more (2026-03, faults).
 unfoldable pub afterBy : Says → Known → List ℕ → Known
 afterBy (moves spot) r w = withSpot r (spot .stage) (spot .place)
 afterBy codes r w = record { spot = record { stage = r .spot .stage; place = VarName }; code = w; vars = r .vars; begun = r .begun }

@@ -1,6 +1,5 @@
 -- The samples of a dump (request 2026-03, each time line makes one sample; docs/DECISIONS.md, "2026-03, samples").
 use Prim.Native.Nat.{ℕ, _+_, _-_, _*_, _/_}
-use mathlib.Core.Bool.{Bool, true, false}
 use mathlib.Core.List.{List, [], _∷_, _++_, map}
 use lib.ListN.{replicate}
 use Rattle.ground.specs.Numbers.{mostElapsed}
@@ -15,7 +14,8 @@ pub record Moment : Type 0 where
   pub time : ℕ
   pub level : ℕ
 
--- What a token does to the moment that is open: a time closes it and opens the next, a value is laid over its levels.
+-- What a token does to the moment that is open: a time closes it and opens the next, a value is laid over its levels (2026-03, the last
+-- values up to the next).
 abbrev pub momentsBy : Says → ℕ → ℕ → (ℕ → ℕ → List Moment) → List Moment
 momentsBy (moves spot) time level rest = rest time level
 momentsBy codes time level rest = rest time level
@@ -39,11 +39,11 @@ pub record Sample : Type 0 where
 abbrev pub repeatsOf : ℕ → ℕ
 repeatsOf gap = (gap - 1) / mostElapsed
 
--- What the repeats leave of a gap.
+-- What the repeats leave of a gap, at most 100,000 (2026-03, a gap over 100,000).
 abbrev pub restOf : ℕ → ℕ
 restOf gap = gap - repeatsOf gap * mostElapsed
 
--- The time from a moment to the next.
+-- The time from a moment to the next; none behind the last (2026-03, samples).
 abbrev pub gapTo : ℕ → List Moment → ℕ
 gapTo time [] = 0
 gapTo time (m ∷ ms) = m .time - time

@@ -9,7 +9,7 @@ use lib.ListN.{length, take, drop}
 use lib.Seq.{take-at}
 use Rattle.ground.specs.Kind.{kindOf, known}
 use Rattle.ground.specs.Size.{sizeMeant, sizeBy}
-use Rattle.ground.specs.Verdict.{Verdict, accepted, refused}
+use Rattle.ground.specs.Verdict.{Verdict, accepted, refused, unlessRefused}
 use Rattle.ground.proofs.Verdicts.{apart}
 use Rattle.refusals.specs.Refusals.{powerOf, judgedOf, captureOf}
 use Rattle.entries.specs.Entries.{Placed}
@@ -24,7 +24,7 @@ use Rattle.texts.specs.Laying.{Starts}
 use Rattle.texts.specs.Refusal.{refusalLine}
 use Rattle.tidying.specs.Shown.{shownBy, textGives, shownOf}
 use Rattle.telling.specs.Told.{told, fits, answerBy, leftOr}
-use Rattle.captures.specs.Once.{onceBy, captureVerdict}
+use Rattle.captures.specs.Once.{captureVerdict}
 use Rattle.exactly.specs.Causes.{NoRefusalWithoutCause}
 use Rattle.exactly.proofs.ReadLines.{verdict-bad}
 use Rattle.exactly.proofs.RefusalLine.{one-line, no-line}
@@ -44,7 +44,7 @@ row-cause : (b : Bool) (v : Verdict) (numbers numbers′ : List ℕ) (r k p : �
 row-cause true v numbers numbers′ r k p a o h e f = told-cause v k p h (sym e ∙ f)
 row-cause false v numbers numbers′ r k p a o h e f = absurd (omega arith)
 
-once-cause : (u v : Verdict) (k p : ℕ) → onceBy u v ≡ refused k p → (u ≡ refused k p) ⊎ ((n : ℕ) × (u ≡ accepted n) × (v ≡ refused k p))
+once-cause : (u v : Verdict) (k p : ℕ) → unlessRefused u v ≡ refused k p → (u ≡ refused k p) ⊎ ((n : ℕ) × (u ≡ accepted n) × (v ≡ refused k p))
 once-cause (accepted n) v k p e = inr (n, refl, e)
 once-cause (refused j q) v k p e = inl e
 

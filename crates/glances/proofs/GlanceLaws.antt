@@ -10,6 +10,7 @@ use lib.Dec.{eqb, ltb}
 use lib.ListN.{length, getD, take, drop, length-drop}
 use lib.Seq.{drop-cons, getD-drop, length-take-le}
 use borrow.Author.Tests.{lt-ltb, le-leb, eq-eqb, ne-eqb, eqb-false}
+use Rattle.codes.specs.Codes.{hash}
 use Rattle.digits.specs.Digits.{within}
 use Rattle.lines.specs.Lines.{lineFeed}
 use Rattle.tokens.specs.Tokens.{blank, lineBy}
@@ -23,10 +24,10 @@ use Rattle.wires.specs.Values.{isValue}
 use Rattle.wires.proofs.WireLaws.{figure-decimal, time-whole}
 use Rattle.sections.specs.declared.Place.the-variants.{Between}
 use Rattle.sections.specs.Sections.{Says, times, puts}
-use Rattle.dumps.specs.Reading.{hash, saysOf}
+use Rattle.dumps.specs.Reading.{saysOf}
 use Rattle.dumps.specs.Defined.{varsOf, bodyAt}
 use Rattle.headings.specs.Parts.{Tabled}
-use Rattle.glances.specs.declared.Past.{Past}
+use Rattle.tokens.specs.declared.Past.{Past}
 use Rattle.glances.specs.Parts.{Sees, SeesMarks, SeesTime, Skims}
 
 -- A blank is passed.

@@ -5,7 +5,7 @@ use mathlib.Core.Path.{_≡_}
 use native.Mathlib.Omega.{arith}
 use lib.ListN.{getD}
 use Rattle.sections.specs.Sections.{Says, times, puts}
-use Rattle.glances.specs.declared.Past.{Past}
+use Rattle.tokens.specs.declared.Past.{Past}
 use Rattle.glances.specs.declared.Seen.{Seen}
 use Rattle.glances.specs.Parts.{Sees, SeesMarks, SeesTime, Skims}
 use Rattle.glances.proofs.GlanceLaws.{sees-past}

@@ -10,7 +10,7 @@ use Rattle.tokens.specs.Tokens.{tokensFrom}
 use Rattle.tokens.specs.Parts.{FindsWord}
 use Rattle.dumps.specs.Reading.{saysOf}
 use Rattle.dumps.specs.Defined.{bodyAt}
-use Rattle.glances.specs.declared.Past.{Past}
+use Rattle.tokens.specs.declared.Past.{Past}
 use Rattle.glances.specs.declared.Seen.{Seen}
 
 -- A token found with what it says.

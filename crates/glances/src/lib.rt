@@ -1,22 +1,17 @@
 // The tokens that nearly all of a dump is made of, seen at a glance: behind at most one blank a value of 0 or 1 for a code of one
 // character, or a time. What is not so simple is left to those who ask token after token.
 use std::num;
+use tokens::Past;
 use tokens::is_blank;
 use wires::times;
 ghost use mathlib.Core.Path.{_≡_};
 ghost use Prim.Native.Nat.{_+_, _/_, _≤_, _<_};
 ghost use lib.ListN.{length, getD};
 ghost use Rattle.tokens.specs.Tokens.{blank};
-ghost use Rattle.dumps.specs.Reading.{hash};
+ghost use Rattle.codes.specs.Codes.{hash};
 ghost use Rattle.dumps.specs.Defined.{varsOf};
 ghost use Rattle.headings.specs.Parts.{Tabled};
 ghost use Rattle.glances.specs.Parts.{SeesMarks, SeesTime, Skims};
-
-// A place in a text, and the line that it is on.
-pub struct Past {
-    pub at: usize,
-    pub line: usize,
-}
 
 // A time that is seen, and its token's length; length 0 and time 0 where none is.
 pub struct Seen {
@@ -24,9 +19,8 @@ pub struct Seen {
     pub length: usize,
 }
 
-const SPACE: u8 = 0x20;
-
-pub const HASH: u8 = b'#';
+// Half of the character `0`, and of `1`.
+pub const ZERO_OR_ONE: u8 = 0x18;
 
 const NOUGHT: u64 = 0x30;
 
@@ -34,9 +28,9 @@ const NOUGHT: u64 = 0x30;
 const DIGITS: usize = 11;
 
 // What must be left of the dump: a blank, a hash and so many characters.
-pub const FAR: usize = 13;
+pub const FAR: usize = DIGITS + 2;
 
-// Past one blank, if there is one.
+// Past one line feed or space, if there is one; other blanks are left to `tokens::next`.
 pub fn past_blank(dump: &[u8], at: usize, line: usize) -> Past
     requires { ⌜ at < length (now dump) ⌝ }
     requires { ⌜ line ≤ at ⌝ }
@@ -49,7 +43,7 @@ pub fn past_blank(dump: &[u8], at: usize, line: usize) -> Past
             line: line + 1,
         };
     }
-    if character == SPACE {
+    if character == tokens::SPACE {
         return Past { at: at + 1, line };
     }
     Past { at, line }
@@ -104,7 +98,7 @@ pub fn marks_at(dump: &[u8], table: &[u8], from: usize) -> u8
     ensures { λ r. ⌜ SeesMarks (now (dump .entry)) from r ⌝ }
 {
     let code = dump[from + 1];
-    if code > SPACE {
+    if code > tokens::SPACE {
         if ends(dump[from + 2]) {
             return table[code as usize];
         }

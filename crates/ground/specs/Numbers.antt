@@ -1,4 +1,5 @@
--- The numbers of document 01 and of its requests that stand alone, each named once; refusal numbers and control bytes stand in their tables.
+-- The numbers of document 01 and of its requests that rules share, each named once; refusal numbers and control bytes stand in their tables,
+-- a number of one rule beside it.
 use Prim.Native.Nat.{ℕ}
 
 -- Microseconds that a nonvolatile write takes (Bytes on the wire, stop; Control register, RWEL high).

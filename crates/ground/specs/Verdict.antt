@@ -13,6 +13,11 @@ unfoldable pub meant : Reply → Verdict
 meant (Accepted n) = accepted n
 meant (Refused k p) = refused k p
 
+-- A refusal comes before whatever would be judged behind it (Refusal numbers, checked in numeric order).
+abbrev pub unlessRefused : Verdict → Verdict → Verdict
+unlessRefused (accepted n) v = v
+unlessRefused (refused k p) v = refused k p
+
 -- Refusal 1: the number names no part (Refusal numbers, 1).
 abbrev pub noPart : Verdict
 noPart = refused 1 0

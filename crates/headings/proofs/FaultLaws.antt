@@ -4,7 +4,7 @@ use mathlib.Core.Bool.{Bool, true, false}
 use mathlib.Core.List.{List, _∷_}
 use mathlib.Core.Path.{_≡_, refl, ap, _∙_}
 use lib.Dec.{eqb}
-use borrow.Author.Tests.{lt-ltb, le-ltb, le-leb, lt-leb, eq-eqb, ne-eqb}
+use borrow.Author.Tests.{lt-ltb, le-ltb, le-leb, lt-leb, eq-eqb, ne-eqb, eqb-true, eqb-false}
 use Rattle.dumps.specs.Faults as dumped
 use Rattle.dumps.specs.Faults.{comesFirst, firstBy, first, noteBy, note, verdictBy}
 use Rattle.headings.specs.declared.faults.Fault.{Fault}
@@ -77,3 +77,14 @@ module _ (p : Fault) (n line : ℕ) where
   joined-small most h k =
       joined-by (eqb n 0) (eqb (p .number) 0)
       (comesFirst (record { line = p .line; number = p .number }) (record { line = line; number = n })) most h k
+
+  -- Joined they are none only where neither is one.
+  clear-by : (a z b : Bool) → eqb n 0 ≡ a → eqb (p .number) 0 ≡ z → joinedBy a z b p n line .number ≡ 0 → (p .number ≡ 0) × (n ≡ 0)
+  clear-by true z b e f g = (g, eqb-true n 0 e)
+  clear-by false true b e f g = absurd (eqb-false n 0 e g)
+  clear-by false false true e f g = absurd (eqb-false (p .number) 0 f g)
+  clear-by false false false e f g = absurd (eqb-false n 0 e g)
+
+  pub joined-clear : joinedOf p n line .number ≡ 0 → (p .number ≡ 0) × (n ≡ 0)
+  unfolding joinedOf
+  joined-clear g = clear-by (eqb n 0) (eqb (p .number) 0) _ refl refl g

@@ -22,7 +22,7 @@ use Rattle.dumps.specs.Faults.{unheard, heardBy, faultIf, faultBy, note, faults
 use Rattle.dumps.proofs.Silent.{silent-faults, silent-samples}
 use Rattle.dumps.proofs.Inside.{inside, waiting, heading, behind, faults-said, samples-said}
 use Rattle.headings.specs.declared.faults.Fault.{Fault}
-use Rattle.headings.specs.Parts.{joinedOf}
+use Rattle.headings.specs.Parts.{noFault, joinedOf}
 use Rattle.headings.proofs.FaultLaws.{joined-verdict}
 use Rattle.headings.proofs.Walks.{Meets}
 
@@ -35,7 +35,7 @@ pub record Judges (dump : List ℕ) (fault : Fault) (at line : ℕ) (stage : Sta
       count
   pub samples : samplesIn dump ≡ samplesFrom (heading stage place code vars) (wordsOf (drop at dump))
 
-pub judges-start : (dump code : List ℕ) → Judges dump (record { number = 0; line = 0 }) 0 0 Start Between code []
+pub judges-start : (dump code : List ℕ) → Judges dump noFault 0 0 Start Between code []
 unfolding faultsOf samplesIn note
 judges-start dump code = record { verdict = λ count. refl; samples = refl }
 

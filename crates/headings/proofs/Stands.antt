@@ -2,7 +2,7 @@
 use Prim.Native.Nat.{ℕ, _-_, _≤_}
 use mathlib.Core.Bool.{true, false, _&&_, not, true≢false}
 use mathlib.Core.List.{List, [], _∷_}
-use mathlib.Core.Path.{_≡_, refl, sym, subst, _∙_}
+use mathlib.Core.Path.{_≡_, refl, ap, sym, subst, _∙_}
 use native.Mathlib.Omega.{arith}
 use lib.Dec.{eqb}
 use lib.ListN.{length, take, drop, replicate}
@@ -22,7 +22,7 @@ use Rattle.dumps.specs.Faults.{unheard, faultIf}
 use Rattle.dumps.proofs.Inside.{heading, ends-inside, over-body}
 use Rattle.headings.specs.declared.faults.Fault.{Fault}
 use Rattle.headings.specs.Parts.{Tabled, declaredIn, joinedOf, Defines}
-use Rattle.headings.proofs.FaultLaws.{joined-small}
+use Rattle.headings.proofs.FaultLaws.{joined-small, joined-clear}
 use Rattle.headings.proofs.TableLaws.{tabled-none, tabled-more}
 use Rattle.headings.proofs.Walks.{Walks, Meets, walks-start, walks-moves, walks-codes, walks-names, walks-defines, vars-over, vars-end, vars-breaks}
 use Rattle.headings.proofs.Judged.{Judges, judges-start, judges-moves, judges-codes, judges-names, judges-defines, verdict-breaks, samples-breaks}
@@ -69,6 +69,7 @@ module _ {dump table : List ℕ} {at line : ℕ} {stage : Stage} {place : Place}
         over = λ e. (λ count. k .judges .verdict count ∙ rw q, k .judges .samples ∙ rw q);
         short = λ e f. absurd (true≢false e);
         wrong = λ e f. absurd (true≢false e);
+        told = λ e f. absurd (true≢false e);
       }
 
   -- Where the dump ends inside them.
@@ -84,6 +85,7 @@ module _ {dump table : List ℕ} {at line : ℕ} {stage : Stage} {place : Place}
         over = λ f. absurd (true≢false (sym f));
         short = λ f g. (λ count. k .judges .verdict count ∙ rw (e, q), k .judges .samples ∙ rw (words-none dump at line e));
         wrong = λ f g. absurd (true≢false (sym g));
+        told = λ f g. absurd (true≢false (sym g));
       }
 
   module _ {from to on : ℕ} {r : Step} (m : Meets dump at line stage place from to on r) where
@@ -157,4 +159,5 @@ module _ {dump table : List ℕ} {at line : ℕ} {stage : Stage} {place : Place}
           over = λ g. absurd (true≢false (sym g));
           short = λ g h. absurd (true≢false h);
           wrong = λ g h. (rw j (verdict-breaks (k .judges) (k .walks .stands) m e), samples-breaks (k .judges) (k .walks .stands) m e);
+          told = λ g h z. let w = joined-clear fault 20 on (ap (λ (q : Fault). q .number) (sym j) ∙ z) .1 in omega arith;
         }

@@ -1,28 +1,15 @@
 -- Laws of the table of marks. Assumes nothing.
-use Prim.Native.Nat.{ℕ, suc, _+_, _-_, _<_, _≤_}
+use Prim.Native.Nat.{ℕ, _<_}
 use mathlib.Core.Bool.{Bool, true, false, _&&_}
-use mathlib.Core.List.{List, [], _∷_, _++_, append-assoc, append-nil}
-use mathlib.Core.Path.{_≡_, refl, sym, _∙_}
+use mathlib.Core.List.{List, [], _∷_}
+use mathlib.Core.Path.{_≡_, refl, _∙_}
 use native.Mathlib.Omega.{arith}
 use lib.Dec.{eqb}
-use lib.ListN.{length, getD, set, take, replicate, length-set, length-replicate, getD-replicate}
-use lib.Seq.{take-suc-set, take-all, getD-set-same, getD-set-other}
+use lib.ListN.{length, getD, set, replicate, length-set, length-replicate, getD-replicate}
+use lib.Seq.{getD-set-same, getD-set-other}
 use borrow.Author.Tests.{eqb-true, eqb-false}
 use Rattle.wires.specs.Wires.{Var, marked, marksBy, marksOf, weightOf}
 use Rattle.headings.specs.Parts.{Tabled, declaredIn}
-
--- One turn of the clearing: a nought is stored, and what is left is cleared behind it.
-pub clear-turn : (row : List ℕ) (i n : ℕ) → i < length row → length row ≡ n
-    → take (suc i) (set row i 0) ++ replicate (n - suc i) 0 ≡ take i row ++ replicate (n - i) 0
-clear-turn row i n h e =
-    let k : n - i ≡ suc (n - suc i) = omega arith in
-    rw (take-suc-set row i 0 h, k, append-assoc)
-
-pub clear-done : (row : List ℕ) (i n : ℕ) {whole : List ℕ} → length row ≤ i → n ≤ i
-    → take i row ++ replicate (n - i) 0 ≡ whole → row ≡ whole
-clear-done row i n h k e =
-    let z : n - i ≡ 0 = omega arith in
-    sym (append-nil row) ∙ (rw (z, take-all i row h) at e)
 
 -- A cleared table is that of no wire.
 pub tabled-none : (table : List ℕ) (n : ℕ) → n ≡ 256 → table ≡ replicate n 0 → Tabled [] table

@@ -1,11 +1,10 @@
 // The first fault of a dump: the earliest line, and the lowest number there.
 ghost use mathlib.Core.Path.{_≡_};
-ghost use Prim.Native.Nat.{_≤_};
 ghost use lib.Dec.{eqb};
 ghost use mathlib.Core.Bool.{not};
 ghost use Rattle.wires.specs.Wires.{hasWire, allWires};
 ghost use Rattle.dumps.specs.Faults.{faultIf};
-ghost use Rattle.headings.specs.Parts.{joinedOf};
+ghost use Rattle.headings.specs.Parts.{noFault, joinedOf};
 
 pub const MALFORMED: u8 = 20;
 
@@ -22,7 +21,7 @@ pub struct Fault {
 }
 
 pub fn none() -> Fault
-    ensures { λ r. ⌜ r ≡ record { number = 0; line = 0 } ⌝ }
+    ensures { λ r. ⌜ r ≡ noFault ⌝ }
 {
     Fault { number: 0, line: 0 }
 }

@@ -9,10 +9,12 @@ use sections::Stage;
 use sections::Step;
 use tokens::Found;
 use wires::marks;
-ghost use Prim.Native.Nat.{_≤_};
 ghost use mathlib.Core.Path.{_≡_};
 ghost use lib.ListN.{length};
 ghost use Rattle.headings.specs.Parts.{Defines};
+
+// A table of marks has an entry for each character.
+pub const CODES: usize = 256;
 
 // Where the definitions are left: the place in the dump with its line, how far they came, and the first fault.
 pub struct Heading {

@@ -7,7 +7,6 @@ use tokens::Found;
 use tokens::same;
 use wires::marks;
 ghost use mathlib.Core.Path.{_≡_};
-ghost use Prim.Native.Nat.{_≤_};
 ghost use lib.ListN.{length};
 ghost use Rattle.wires.specs.Wires.{weightOf, marksBy, marksOf};
 ghost use Rattle.dumps.specs.Defined.{varsOf};

@@ -3,7 +3,6 @@ use sections::Place;
 use sections::Stage;
 use wires::marks;
 ghost use mathlib.Core.Path.{_≡_};
-ghost use Prim.Native.Nat.{_≤_};
 ghost use mathlib.Core.Bool.{_&&_};
 ghost use lib.ListN.{length, replicate};
 ghost use Rattle.sections.specs.Sections.{isBody};

@@ -1,27 +1,14 @@
 -- Laws of the sum of bytes that stand before noughts. Assumes nothing.
-use Prim.Native.Nat.{ℕ, zero, suc, _+_, _-_, _%_, _<_, _≤_}
-use mathlib.Core.List.{List, _++_, append-assoc, append-nil}
+use Prim.Native.Nat.{ℕ, zero, suc, _+_, _-_, _%_, _≤_}
+use mathlib.Core.List.{List, _++_}
 use mathlib.Core.Path.{_≡_, refl, ap, sym, _∙_}
 use native.Mathlib.Omega.{arith}
 use lib.Dec.{eqb}
-use lib.ListN.{length, take, drop, set, replicate, length-drop}
-use lib.Seq.{take-suc-set, take-all, take-add, take-at, drop-at, take-append-le, length-take-le}
+use lib.ListN.{length, take, drop, replicate, length-drop}
+use lib.Seq.{take-add, take-at, drop-at, take-append-le, length-take-le}
 use Rattle.hexfile.specs.Pairs.{sumOf}
 use Rattle.hexfile.specs.Promises.{SumsUp}
 use Rattle.hexfile.proofs.PairLaws.{sum-append}
-
--- One turn of the clearing: a nought is stored, and what is left is cleared after it.
-pub clear-turn : (row : List ℕ) (i n : ℕ) → i < length row → length row ≡ n
-    → take (suc i) (set row i 0) ++ replicate (n - suc i) 0 ≡ take i row ++ replicate (n - i) 0
-clear-turn row i n h e =
-    let k : n - i ≡ suc (n - suc i) = omega arith in
-    rw (take-suc-set row i 0 h, k, append-assoc)
-
-pub clear-done : (row : List ℕ) (i n : ℕ) {whole : List ℕ} → length row ≤ i → n ≤ i
-    → take i row ++ replicate (n - i) 0 ≡ whole → row ≡ whole
-clear-done row i n h k e =
-    let z : n - i ≡ 0 = omega arith in
-    sym (append-nil row) ∙ (rw (z, take-all i row h) at e)
 
 -- Noughts add up to nothing.
 sum-noughts : (k n : ℕ) → sumOf (take k (replicate n 0)) ≡ 0

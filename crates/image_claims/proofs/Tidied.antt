@@ -5,15 +5,14 @@ use Prim.Native.Nat.{ℕ, _<_}
 use mathlib.Core.List.{List}
 use mathlib.Core.Path.{_≡_, ap, sym, subst, _∙_}
 use native.Mathlib.Omega.{arith}
-use lib.ListN.{take, drop}
-use lib.Seq.{take-at}
+use lib.ListN.{take}
 use borrow.Author.Tests.{lt-ltb}
 use Rattle.ground.specs.Kind.{kindOf}
 use Rattle.forms.specs.Reading.{taken, readingOf}
 use Rattle.forms.specs.Writing.{imageText}
 use Rattle.intel.specs.Intel.{intel}
 use Rattle.image.proofs.Sizes.{kind-rows}
-use Rattle.texts.specs.Laying.{Starts}
+use Rattle.texts.proofs.Starting.{starts-text}
 use Rattle.tidying.specs.Shown.{shownOf}
 use Rattle.round_trip.specs.RoundTrip.{Takes}
 use Rattle.round_trip.proofs.WrittenBack.{takes-rows}
@@ -47,10 +46,6 @@ module _ (trips : IntelTrips) (part : ℕ) (k : 0 < kindOf part .size) where
 -- The habits for every part.
 pub tidies-from : IntelTrips → Tidies
 tidies-from trips = record { habits = λ part h. tidied trips part (omega arith) }
-
--- What starts a buffer is what is taken of it.
-starts-text : (text out : List ℕ) (r : ℕ) (out′ : List ℕ) → Starts text out r out′ → take r out′ ≡ text
-starts-text text out r out′ x = rw (x .shown) (take-at text (drop r out) r (sym (x .count)))
 
 -- The work done twice.
 pub twice-from : Tidies → TidyTwice

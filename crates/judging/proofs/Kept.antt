@@ -1,37 +1,35 @@
 -- Laws of what is kept while a dump is judged token after token, at the start and at the end. Assumes nothing.
-use Prim.Native.Nat.{ℕ, _+_, _-_, _≤_}
-use mathlib.Core.Bool.{Bool, true, false, not}
+use Prim.Native.Nat.{ℕ, _≤_}
+use mathlib.Core.Bool.{Bool, true, false}
 use mathlib.Core.List.{List, []}
 use mathlib.Core.Path.{_≡_, refl, ap, sym, _∙_}
 use native.Mathlib.Omega.{arith}
-use lib.Dec.{eqb, ltb}
+use lib.Dec.{eqb}
 use lib.ListN.{length, drop}
-use borrow.Author.Tests.{eqb-true, eqb-false}
+use borrow.Author.Tests.{eqb-true}
 use Rattle.ground.specs.Verdict.{meant}
 use Rattle.ground.specs.declared.Reply.{Reply}
-use Rattle.tokens.specs.Tokens.{tokensFrom, wordsOf, lastLine}
-use Rattle.wires.specs.Times.{highestTime}
-use Rattle.dumps.specs.Reading.{Known}
+use Rattle.tokens.specs.Tokens.{wordsOf, lastLine}
 use Rattle.dumps.specs.Defined.{bodyAt}
 use Rattle.dumps.specs.Samples.{samplesIn}
 use Rattle.dumps.specs.Faults as dumped
-use Rattle.dumps.specs.Faults.{note, faultsFrom, faultsOf, verdictBy, dumpVerdict}
+use Rattle.dumps.specs.Faults.{note, faultsOf, verdictBy, dumpVerdict}
 use Rattle.headings.specs.declared.Heading.{Heading}
 use Rattle.headings.specs.declared.faults.Fault.{Fault}
-use Rattle.headings.specs.Parts.{Defines, joinedBy, joinedOf}
-use Rattle.headings.proofs.FaultLaws.{joined-verdict, joined-small}
+use Rattle.headings.specs.Parts.{Defines, joinedOf}
+use Rattle.headings.proofs.FaultLaws.{joined-verdict, joined-small, joined-clear}
 use Rattle.changes.specs.declared.Mode.{Mode}
 use Rattle.changes.specs.declared.Mode.the-variants.{Between}
 use Rattle.changes.specs.Parts.{placeOf}
 use Rattle.judging.specs.declared.Heard.{Heard}
 use Rattle.judging.specs.Promises.{Judges}
-use Rattle.judging.specs.Parts.{mostCounted}
-use Rattle.judging.specs.Kept.{readingAt, Kept}
+use Rattle.judging.specs.Parts.{nothingHeard, mostCounted}
+use Rattle.judging.specs.Kept.{Kept}
 use Rattle.judging.proofs.CountLaws.{later-samples}
 
 -- Where the definitions are over nothing was heard.
 pub kept-start : (dump table : List ℕ) (r : Heading) → Defines dump r table → r .over ≡ true
-    → Kept dump (r .at) (r .line) (r .fault) Between (record { lines = 0; time = 0; given = 0; samples = 0 })
+    → Kept dump (r .at) (r .line) (r .fault) Between nothingHeard
 kept-start dump table r d o =
     record {
       inside = d .inside;
@@ -44,18 +42,6 @@ kept-start dump table r d o =
       verdict = d .over o .0;
       samples = λ e. omega (arith, later-samples (bodyAt dump (placeOf Between) false) (wordsOf (drop (r .at) dump)) 0 refl, ap length (d .over o .1));
     }
-
--- Two faults joined are none only where neither is one.
-module _ (p : Fault) (n line : ℕ) where
-  clear-by : (a z b : Bool) → eqb n 0 ≡ a → eqb (p .number) 0 ≡ z → joinedBy a z b p n line .number ≡ 0 → (p .number ≡ 0) × (n ≡ 0)
-  clear-by true z b e f g = (g, eqb-true n 0 e)
-  clear-by false true b e f g = absurd (eqb-false n 0 e g)
-  clear-by false false true e f g = absurd (eqb-false (p .number) 0 f g)
-  clear-by false false false e f g = absurd (eqb-false n 0 e g)
-
-  pub joined-clear : joinedOf p n line .number ≡ 0 → (p .number ≡ 0) × (n ≡ 0)
-  unfolding joinedOf
-  joined-clear g = clear-by (eqb n 0) (eqb (p .number) 0) _ refl refl g
 
 -- It stands no further than the two.
 pub first-small : (p : Fault) (n line most : ℕ) (first : Fault) → first ≡ joinedOf p n line → p .line ≤ most → line ≤ most

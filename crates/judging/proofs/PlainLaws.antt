@@ -1,51 +1,34 @@
 -- Laws of passing plain tokens: what a value of 0 or 1 and a time that makes one sample leave of what is kept. Assumes nothing.
 use Prim.Native.Nat.{ℕ, _+_, _-_, _/_, _%_, _≤_, _<_}
-use mathlib.Core.Bool.{Bool, true, false, not, _&&_}
+use mathlib.Core.Bool.{Bool, true, false}
 use mathlib.Core.List.{List}
 use mathlib.Core.Path.{_≡_, refl, sym, _∙_}
 use native.Mathlib.Omega.{arith}
-use lib.Dec.{eqb, ltb, leb}
-use lib.ListN.{length, take, drop}
-use borrow.Author.Tests.{lt-ltb, lt-leb, eq-eqb, ne-eqb}
+use lib.Dec.{eqb, ltb}
+use lib.ListN.{length}
+use borrow.Author.Tests.{lt-ltb, lt-leb, ne-eqb}
 use Rattle.ground.specs.Cases.{odd}
 use Rattle.sections.specs.Sections.{times, puts}
-use Rattle.wires.specs.Wires.{bitBy, laid, allWires}
+use Rattle.wires.specs.Wires.{bitBy, laid}
 use Rattle.wires.specs.Values.{unfit}
-use Rattle.dumps.specs.Reading.{saysOf}
 use Rattle.dumps.specs.Samples.{repeatsOf}
-use Rattle.dumps.specs.Faults.{faultIf, timeFault, note}
+use Rattle.dumps.specs.Faults.{faultIf, note, lateOf}
 use Rattle.headings.specs.declared.faults.Fault.{Fault}
-use Rattle.headings.specs.Parts.{joinedOf}
+use Rattle.headings.specs.Parts.{noFault}
+use Rattle.headings.proofs.FaultLaws.{join-none}
 use Rattle.changes.specs.declared.Mode.{Mode}
 use Rattle.changes.specs.declared.Mode.the-variants.{Between}
 use Rattle.changes.specs.declared.Change.the-variants.{Time, Value}
-use Rattle.changes.specs.Parts.{changeMeant}
-use Rattle.glances.specs.declared.Past.{Past}
+use Rattle.changes.proofs.Meanings.{means-time, means-value}
+use Rattle.tokens.specs.declared.Past.{Past}
 use Rattle.glances.specs.declared.Seen.{Seen}
 use Rattle.glances.specs.Parts.{Sees, SeesTime, Skims}
 use Rattle.glances.proofs.SeenPast.{seen-time, seen-further}
 use Rattle.judging.specs.declared.Heard.{Heard}
 use Rattle.judging.specs.declared.Plain.{Plain}
 use Rattle.judging.specs.Parts.{mostCounted, takenBy}
-use Rattle.judging.specs.Kept.{Kept, KeptOn, noFault}
+use Rattle.judging.specs.Kept.{Kept, KeptOn}
 use Rattle.judging.proofs.Turns.{turn-value, turn-time}
-
-means-value : (c marks : ℕ) → changeMeant (Value c marks) ≡ puts c marks
-unfolding changeMeant
-means-value c marks = refl
-
-means-time : (t : ℕ) → changeMeant (Time t) ≡ times t
-unfolding changeMeant
-means-time t = refl
-
--- No fault joins none.
-pub joined-zero : (p : Fault) (n line : ℕ) → n ≡ 0 → p ≡ joinedOf p n line
-unfolding joinedOf
-joined-zero p n line e = rw e
-
-joined-none : (p : Fault) (line : ℕ) → p ≡ joinedOf p 0 line
-unfolding joinedOf
-joined-none p line = refl
 
 -- Every wire takes a 0 and a 1.
 plain-fits : (c marks : ℕ) → c / 2 ≡ 0x18 → 0 ≡ faultIf (unfit c marks) 23
@@ -99,11 +82,11 @@ module _ (dump : List ℕ) (from given at line lines time samples : ℕ) (p : Pa
           two = t;
           kept =
               turn-value dump at line noFault Between heard (p .kept) (s .from) to on (s .word) (Value c marks) c marks
-              (means-value c marks ∙ sym (rw b (s .said))) refl 0 given noFault (plain-fits c marks h) (joined-none noFault on) (laid-given marks given g);
+              (means-value _ c marks refl ∙ sym (rw b (s .said))) refl 0 given noFault (plain-fits c marks h) (join-none noFault 0 on refl) (laid-given marks given g);
         }
 
     late-none : (t : ℕ) → time < t
-        → 0 ≡ timeFault (ltb 0 lines && leb t time) (eqb lines 1 && not (eqb given allWires))
+        → 0 ≡ lateOf lines time given t
     late-none t h =
         let two = p .two in
         rw (lt-ltb 0 lines (omega arith), lt-leb t time h, ne-eqb lines 1 (λ e. absurd (omega arith)))
@@ -127,7 +110,7 @@ module _ (dump : List ℕ) (from given at line lines time samples : ℕ) (p : Pa
           two = omega arith;
           kept =
               turn-time dump at line noFault Between heard (p .kept) (s .from) to on (s .word) (Time t) t
-              (means-time t ∙ sym (rw b (s .said))) refl 0 noFault _ (late-none t h) (joined-none noFault on) (taken-plain t d);
+              (means-time _ t refl ∙ sym (rw b (s .said))) refl 0 noFault _ (late-none t h) (join-none noFault 0 on refl) (taken-plain t d);
         }
 
   -- A time above the one before, and its token's length, as they are seen.

@@ -1,6 +1,6 @@
 -- Laws of judging token after token: what each kind of token leaves of what is kept. Assumes nothing.
 use Prim.Native.Nat.{ℕ, _+_, _-_, _≤_, _<_}
-use mathlib.Core.Bool.{Bool, true, false, _&&_, not}
+use mathlib.Core.Bool.{Bool, true, false, _&&_}
 use mathlib.Core.List.{List, []}
 use mathlib.Core.Path.{_≡_, refl, ap, sym, _∙_}
 use native.Mathlib.Omega.{arith}
@@ -13,18 +13,18 @@ use Rattle.sections.specs.Sections.{Says}
 use Rattle.tokens.specs.Tokens.{Token, tokensFrom, wordsOf, lastLine}
 use Rattle.tokens.specs.Parts.{FindsWord}
 use Rattle.tokens.proofs.TokenLaws.{words-found, words-none}
-use Rattle.wires.specs.Wires.{laid, allWires}
+use Rattle.wires.specs.Wires.{laid}
 use Rattle.wires.specs.Values.{unfit}
 use Rattle.dumps.specs.Reading.{saysOf, afterBy, isBetween}
 use Rattle.dumps.specs.Defined.{varsOf, bodyAt}
 use Rattle.dumps.specs.Samples.{repeatsOf, samplesIn}
 use Rattle.dumps.specs.Faults as dumped
-use Rattle.dumps.specs.Faults.{faultIf, timeFault, heardBy, faultBy, endBy, endFault, note, faultsFrom, faultsOf, verdictBy, dumpVerdict}
+use Rattle.dumps.specs.Faults.{faultIf, timeFault, heardBy, faultBy, endBy, endFault, note, faultsFrom, faultsOf, verdictBy, dumpVerdict, lateOf, unfinished}
 use Rattle.dumps.proofs.Taken.{faults-token}
 use Rattle.dumps.proofs.Silent.{silent-faults}
 use Rattle.headings.specs.declared.faults.Fault.{Fault}
-use Rattle.headings.specs.Parts.{joinedOf}
-use Rattle.headings.proofs.FaultLaws.{joined-verdict, joined-small}
+use Rattle.headings.specs.Parts.{joinedOf, noFault}
+use Rattle.headings.proofs.FaultLaws.{joined-verdict, joined-small, joined-clear}
 use Rattle.changes.specs.declared.Mode.{Mode}
 use Rattle.changes.specs.declared.Mode.the-variants.{Between, Dumped, Skipped}
 use Rattle.changes.specs.declared.Change.{Change}
@@ -35,8 +35,8 @@ use Rattle.judging.specs.declared.Heard.{Heard}
 use Rattle.judging.specs.Promises.{Judges}
 use Rattle.judging.specs.Parts.{heardOf, gapBy, takenBy, laterBy, laterOf}
 use Rattle.sections.specs.declared.Stage.the-variants.{Body}
-use Rattle.judging.specs.Kept.{readingAt, Kept, noFault}
-use Rattle.judging.proofs.Kept.{joined-clear, judged}
+use Rattle.judging.specs.Kept.{readingAt, Kept}
+use Rattle.judging.proofs.Kept.{judged}
 
 -- A time line without a fault is above the one before, so the samples stay fewer than the characters read and the time together.
 on-time : (late lacking : Bool) → timeFault late lacking ≡ 0 → late ≡ false
@@ -135,7 +135,7 @@ module _ (dump : List ℕ) (at line : ℕ) (fault : Fault) (mode : Mode) (heard 
   module _ (r : Change) (t : ℕ) (h : changeMeant r ≡ saysOf (readingAt dump mode heard) wordAt) (e : r ≡ Time t) where
     abbrev lateAt : ℕ
     lateAt =
-        timeFault (ltb 0 (heard .lines) && leb t (heard .time)) (eqb (heard .lines) 1 && not (eqb (heard .given) allWires))
+        lateOf (heard .lines) (heard .time) (heard .given) t
 
     abbrev firstAt : Fault
     firstAt = joinedOf fault lateAt on
@@ -184,7 +184,7 @@ module _ (dump : List ℕ) (at line : ℕ) (fault : Fault) (mode : Mode) (heard 
 
 -- At the end: the fault there joins those before.
 end-number : (dump : List ℕ) (mode : Mode) (begun : Bool) (h : dumped.Heard)
-    → endBy false (isBetween (placeOf mode)) (ltb (h .lines) 2 && dumped.lacks h) ≡ endFault (bodyAt dump (placeOf mode) begun) h
+    → endBy false (isBetween (placeOf mode)) (dumped.unfinished (h .lines) (h .given)) ≡ endFault (bodyAt dump (placeOf mode) begun) h
 unfolding endFault
 end-number dump Between begun h = refl
 end-number dump Dumped begun h = refl
@@ -192,7 +192,7 @@ end-number dump Skipped begun h = refl
 
 pub judged-end : (dump : List ℕ) (at line : ℕ) (fault : Fault) (mode : Mode) (heard : Heard) → Kept dump at line fault mode heard
     → tokensFrom line (drop at dump) ≡ [] → (n last : ℕ) (first : Fault) (reply : Reply)
-    → n ≡ endBy false (isBetween (placeOf mode)) (ltb (heard .lines) 2 && not (eqb (heard .given) allWires)) → last ≡ lastLine dump
+    → n ≡ endBy false (isBetween (placeOf mode)) (unfinished (heard .lines) (heard .given)) → last ≡ lastLine dump
     → first ≡ joinedOf fault n last → meant reply ≡ verdictBy (note (first .line) (first .number) []) (heard .samples) → Judges dump reply
 judged-end dump at line fault mode heard k t n last first reply p l q v =
     let m = p ∙ end-number dump mode (ltb 0 (heard .lines)) (heardOf heard) in
@@ -209,7 +209,7 @@ judged-end dump at line fault mode heard k t n last first reply p l q v =
 -- Where neither was a fault before nor is one at the end, the dump is accepted.
 pub accepted-end : (dump : List ℕ) (at line : ℕ) (mode : Mode) (heard : Heard) → Kept dump at line noFault mode heard
     → tokensFrom line (drop at dump) ≡ []
-    → endBy false (isBetween (placeOf mode)) (ltb (heard .lines) 2 && not (eqb (heard .given) allWires)) ≡ 0
+    → endBy false (isBetween (placeOf mode)) (unfinished (heard .lines) (heard .given)) ≡ 0
     → dumpVerdict dump ≡ accepted (length (samplesIn dump))
 unfolding dumpVerdict note
 accepted-end dump at line mode heard k t e =

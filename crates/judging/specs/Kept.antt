@@ -36,10 +36,6 @@ pub record Kept (dump : List ℕ) (at line : ℕ) (fault : Fault) (mode : Mode) 
   pub samples : fault .number ≡ 0
       → heard .samples + laterOf (readingAt dump mode heard) (wordsOf (drop at dump)) (heard .time) ≡ length (samplesIn dump)
 
--- No fault at all.
-abbrev pub noFault : Fault
-noFault = record { number = 0; line = 0 }
-
 -- Some tokens further the same is kept, and the first fault and the mode are as they were.
 pub record KeptOn (dump : List ℕ) (at : ℕ) (fault : Fault) (mode : Mode) (r : Plain) : Type 0 where
   pub from : at ≤ r .at

@@ -3,6 +3,7 @@ use Prim.Native.Nat.{ℕ, _+_, _-_}
 use mathlib.Core.Bool.{Bool, true, false}
 use mathlib.Core.List.{List, [], _∷_}
 use lib.Dec.{ltb}
+use Rattle.wires.specs.Times.{highestTime}
 use Rattle.sections.specs.Sections.{Says, moves, codes, names, defines, times, puts, breaks}
 use Rattle.dumps.specs.Reading.{Known, saysOf, after}
 use Rattle.dumps.specs.Samples.{repeatsOf}
@@ -13,11 +14,15 @@ use Rattle.judging.specs.declared.Heard.{Heard}
 abbrev pub heardOf : Heard → dumped.Heard
 heardOf h = record { lines = h .lines; time = h .time; given = h .given }
 
+-- Before the first token.
+abbrev pub nothingHeard : Heard
+nothingHeard = record { lines = 0; time = 0; given = 0; samples = 0 }
+
 -- A count that one time line more does not take out of a word: a dump's greatest length and the highest time together.
 abbrev pub mostCounted : ℕ
-mostCounted = 9223372036854775808 + 4294967295
+mostCounted = 9223372036854775808 + highestTime
 
--- The gap before a time line; before the first there is none.
+-- The gap before a time line; before the first there is none (2026-03, the first has elapsed 0).
 abbrev pub gapBy : Bool → ℕ → ℕ → ℕ
 gapBy true before time = time - before
 gapBy false before time = 0
@@ -27,7 +32,7 @@ abbrev pub countedBy : Bool → ℕ → ℕ → ℕ
 countedBy true samples more = samples + more
 countedBy false samples more = samples
 
--- One time line more.
+-- One time line more: one sample, and its repeats (2026-03, each time line; a gap over 100,000).
 abbrev pub takenBy : Bool → Heard → ℕ → Heard
 takenBy sound h time =
     record {
@@ -47,6 +52,7 @@ laterBy (times t) begun time rest = repeatsOf (gapBy begun time t) + 1 + rest t
 laterBy (puts c marks) begun time rest = rest time
 laterBy breaks begun time rest = rest time
 
+-- The same of tokens: how many samples the time lines from here on make (2026-03, samples).
 abbrev pub laterOf : Known → List (List ℕ) → ℕ → ℕ
 laterOf r [] time = 0
 laterOf r (w ∷ ws) time = laterBy (saysOf r w) (r .begun) time (laterOf (after r w) ws)

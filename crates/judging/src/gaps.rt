@@ -5,7 +5,7 @@ ghost use Prim.Native.Nat.{_≤_, _+_};
 ghost use Rattle.dumps.specs.Samples.{repeatsOf};
 ghost use Rattle.judging.specs.Parts.{mostCounted, gapBy, countedBy};
 
-pub const MOST_ELAPSED: u64 = 100_000;
+pub const MOST_ELAPSED: u64 = limits::MOST_ELAPSED as u64;
 
 // The repeats of a gap.
 fn repeats(gap: u64) -> u64

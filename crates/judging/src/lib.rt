@@ -9,20 +9,22 @@ use headings::faults;
 use headings::faults::Fault;
 use tokens::Found;
 use wires::marks;
+use wires::times;
 ghost use mathlib.Core.Path.{_≡_};
 ghost use mathlib.Core.Bool.{true};
 ghost use mathlib.Core.List.{[]};
 ghost use Prim.Native.Nat.{_≤_};
 ghost use lib.ListN.{length};
+ghost use Rattle.wires.specs.Wires.{allWires};
 ghost use Rattle.ground.specs.Verdict.{meant};
 ghost use Rattle.tokens.specs.Tokens.{lastLine};
 ghost use Rattle.dumps.specs.Defined.{varsOf};
 ghost use Rattle.dumps.specs.Faults.{note, verdictBy};
-ghost use Rattle.headings.specs.Parts.{Defines, Tabled, joinedOf};
+ghost use Rattle.headings.specs.Parts.{Defines, Tabled, joinedOf, noFault};
 ghost use Rattle.changes.specs.declared.Mode.the-variants.{Between};
 ghost use Rattle.judging.specs.Promises.{Judges};
 ghost use Rattle.judging.specs.Parts.{mostCounted, takenBy};
-ghost use Rattle.judging.specs.Kept.{Kept, KeptOn, noFault};
+ghost use Rattle.judging.specs.Kept.{Kept, KeptOn};
 
 // The time lines and values so far: how many time lines, the latest time, the wires that have a value, and the samples.
 pub struct Heard {
@@ -32,8 +34,13 @@ pub struct Heard {
     pub samples: usize,
 }
 
-// Half of the character `0`, and of `1`.
-const ZERO_OR_ONE: u8 = 0x18;
+// Before the first token.
+pub const UNHEARD: Heard = Heard {
+    lines: 0,
+    time: 0,
+    given: 0,
+    samples: 0,
+};
 
 // Where plain tokens end: the place, its line, and what was heard up to there.
 struct Plain {
@@ -68,28 +75,12 @@ fn join_end(dump: &[u8], fault: Fault, number: u8) -> Fault
     faults::join(fault, number, tokens::last_line(dump))
 }
 
-// Where plain tokens end, by the numbers.
-fn plain_at(at: usize, line: usize, lines: usize, time: u64, given: u8, samples: usize) -> Plain
-    ensures { λ r. ⌜ r ≡ record { at = at; line = line; heard = record { lines = lines; time = time; given = given; samples = samples } } ⌝ }
-{
-    Plain {
-        at,
-        line,
-        heard: Heard {
-            lines,
-            time,
-            given,
-            samples,
-        },
-    }
-}
-
 // Passes plain tokens while all wires have values and there is no fault: values of 0 and 1, and times above the one before that make one
 // sample. Whatever else comes is left.
 fn pass_plain(dump: &[u8], table: &[u8], from: usize, on: usize, heard: Heard) -> Plain
     requires { ⌜ Tabled (varsOf (now dump)) (now table) ⌝ }
     requires { ⌜ Kept (now dump) «from» on noFault Between heard ⌝ }
-    requires { ⌜ heard .given ≡ 15 ⌝ }
+    requires { ⌜ heard .given ≡ allWires ⌝ }
     requires { ⌜ 2 ≤ heard .lines ⌝ }
     ensures { λ r. ⌜ KeptOn (now (dump .entry)) «from» noFault Between r ⌝ }
 {
@@ -100,28 +91,28 @@ fn pass_plain(dump: &[u8], table: &[u8], from: usize, on: usize, heard: Heard) -
     let mut samples = heard.samples;
     loop {
         if dump.len() - at < glances::FAR {
-            return plain_at(at, line, lines, time, heard.given, samples);
+            break;
         }
         let past = glances::past_blank(dump, at, line);
         let begins = past.at;
         let first = dump[begins];
-        if first / 2 == ZERO_OR_ONE {
+        if first / 2 == glances::ZERO_OR_ONE {
             if glances::marks_at(dump, table, begins) == 0 {
-                return plain_at(at, line, lines, time, heard.given, samples);
+                break;
             }
             at = begins + 2;
             line = past.line;
         } else {
-            if first != glances::HASH {
-                return plain_at(at, line, lines, time, heard.given, samples);
+            if first != times::HASH {
+                break;
             }
             let seen = glances::time_at(dump, begins);
             let now = seen.time;
             if now <= time {
-                return plain_at(at, line, lines, time, heard.given, samples);
+                break;
             }
             if now - time > gaps::MOST_ELAPSED {
-                return plain_at(at, line, lines, time, heard.given, samples);
+                break;
             }
             at = begins + seen.length;
             line = past.line;
@@ -129,6 +120,16 @@ fn pass_plain(dump: &[u8], table: &[u8], from: usize, on: usize, heard: Heard) -
             time = now;
             samples += 1;
         }
+    }
+    Plain {
+        at,
+        line,
+        heard: Heard {
+            lines,
+            time,
+            given: heard.given,
+            samples,
+        },
     }
 }
 
@@ -172,12 +173,7 @@ fn judge_body(dump: &[u8], table: &[u8], heading: Heading) -> Reply
     let mut line = heading.line;
     let mut fault = heading.fault;
     let mut mode = Mode::Between;
-    let mut heard = Heard {
-        lines: 0,
-        time: 0,
-        given: 0,
-        samples: 0,
-    };
+    let mut heard = UNHEARD;
     loop {
         let plain = pass(dump, table, at, line, fault, mode, heard);
         heard = plain.heard;
@@ -229,7 +225,7 @@ pub fn take_time(heard: Heard, time: u64, sound: bool) -> Heard
 pub fn judge(dump: &[u8]) -> Reply
     ensures { λ r. ⌜ Judges (now (dump .entry)) r ⌝ }
 {
-    let mut table = [0u8; 256];
+    let mut table = [0u8; headings::CODES];
     let heading = headings::define(dump, &mut table);
     if heading.over {
         return judge_body(dump, &table, heading);

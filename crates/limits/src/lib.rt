@@ -7,6 +7,9 @@ ghost use Rattle.ground.specs.Verdict.{accepted, meant};
 ghost use Rattle.limits.specs.Samples.{samplesOf};
 ghost use Rattle.limits.specs.Search.{AtMost};
 
+// The most samples of one replay, and what each may say: the time since the one before, and the levels.
+pub const MOST_SAMPLES: usize = 65_536;
+
 pub const MOST_ELAPSED: u32 = 100_000;
 
 pub const MOST_LEVEL: u8 = 15;

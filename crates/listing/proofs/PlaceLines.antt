@@ -3,15 +3,16 @@ use Prim.Native.Nat.{ℕ, suc, _+_, _*_, _≤_, _<_}
 use mathlib.Core.Bool.{Bool, true, false}
 use mathlib.Core.List.{List, [], _∷_, _++_, append-assoc}
 use mathlib.Core.Path.{_≡_, refl, ap, sym, _∙_}
-use native.Mathlib.Nat.{zero-add}
 use native.Mathlib.Numerals.{add-one}
 use native.Mathlib.Omega.{arith}
 use lib.ListN.{length, getD, drop, set, length-append, length-set, drop-of-length-le}
-use lib.Seq.{sets, sets-eq, length-sets, length-take-le, drop-cons}
+use lib.Seq.{sets, length-sets}
 use Rattle.ground.proofs.Rows.{sets-append}
 use Rattle.texts.specs.Numbers.{decimalOf}
 use Rattle.texts.specs.Laying.{Starts, Lays}
-use Rattle.places.specs.Places.{disagrees, placeBy, placesFrom}
+use Rattle.texts.proofs.Starting.{starts-laid}
+use Rattle.places.specs.Places.{disagrees, placesFrom}
+use Rattle.places.proofs.PlaceLaws.{left-cons}
 use Rattle.listing.specs.Listing.{placesText}
 
 -- Joined places have the lines of the first, then those of the second.
@@ -47,23 +48,9 @@ module _ (ls answers : List ℕ) (first : ℕ) (out₀ : List ℕ) where
         let n : at ≡ length t = omega arith in
         let b : i ≤ length ls = g .within in
         let f : at ≤ 21 * i = g .few in
-        let k : 0 + length t ≤ length out₀ = omega arith in
-        let r : at ≤ length out = omega (arith, g .long) in
-        record {
-          shown = s ∙ sets-eq t out₀ 0 k ∙ rw (zero-add, n);
-          count = n;
-          fits = (r, sym (length-take-le at out r));
-        }
+        starts-laid t out₀ out at s n (omega arith)
 
     module _ (h : i < length ls) (k : i < length answers) where
-      -- The places that are left, by the sample at the index.
-      left-cons : (b : Bool) → b ≡ disagrees (getD ls i 0) (getD answers i 0)
-          → placesFrom (first + i) (drop i ls) (drop i answers)
-          ≡ placeBy b (first + i) (placesFrom (first + (i + 1)) (drop (i + 1) ls) (drop (i + 1) answers))
-      left-cons b e =
-          let n : suc (first + i) ≡ first + (i + 1) = omega arith in
-          rw (e, drop-cons ls i 0 h, drop-cons answers i 0 k, n, add-one)
-
       -- A place that disagrees is written, and a line feed behind it.
       pub turn-written : (b : Bool) (row out′ : List ℕ) (r at′ : ℕ) → b ≡ disagrees (getD ls i 0) (getD answers i 0) → b ≡ true
           → Lays (decimalOf (first + i)) out at r row → r ≤ at + 20 → out′ ≡ set row r 10 → at′ ≡ r + 1
@@ -71,7 +58,7 @@ module _ (ls answers : List ℕ) (first : ℕ) (out₀ : List ℕ) where
       turn-written b row out′ r at′ e t w m o f =
           let d = decimalOf (first + i) in
           let rest = placesText (placesFrom (first + (i + 1)) (drop (i + 1) ls) (drop (i + 1) answers)) in
-          let p = left-cons true (sym t ∙ e) in
+          let p = left-cons ls answers first i h k true (sym t ∙ e) in
           let q : length (d ++ (10 ∷ rest)) ≡ length d + suc (length rest) = length-append d (10 ∷ rest) in
           let c : at + length (d ++ (10 ∷ rest)) ≡ length (placesText (placesFrom first ls answers)) = rw p at (g .count) in
           let s : sets out at (d ++ (10 ∷ rest)) ≡ sets out₀ 0 (placesText (placesFrom first ls answers)) = rw p at (g .said) in
@@ -88,7 +75,7 @@ module _ (ls answers : List ℕ) (first : ℕ) (out₀ : List ℕ) where
       pub turn-passed : (b : Bool) (out′ : List ℕ) (at′ : ℕ) → b ≡ disagrees (getD ls i 0) (getD answers i 0) → b ≡ false
           → out′ ≡ out → at′ ≡ at → Writing ls answers first out₀ out′ at′ (i + 1)
       turn-passed b out′ at′ e t o f =
-          let p = left-cons false (sym t ∙ e) in
+          let p = left-cons ls answers first i h k false (sym t ∙ e) in
           record {
             within = omega arith;
             few = omega (arith, g .few);

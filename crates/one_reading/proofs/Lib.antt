@@ -1,4 +1,5 @@
 pub mod Tracks
+pub mod Refused
 pub mod Hearing
 pub mod Beginning
 pub mod Running

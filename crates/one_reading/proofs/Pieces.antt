@@ -8,13 +8,12 @@ use lib.ListN.{length, set}
 use Rattle.ground.specs.Numbers.{mostElapsed}
 use Rattle.pieces.specs.declared.Mark.{Mark}
 use Rattle.pieces.specs.Parts.{behindBy, Filling}
-use Rattle.pieces.specs.Promises.{Moves}
 use Rattle.pieces.proofs.Filling.{filling-none, filling-far, filling-near, filled-full, filled-over}
 use Rattle.one_reading.specs.declared.Track.{Track}
 use Rattle.one_reading.specs.declared.Went.{Went}
 use Rattle.one_reading.specs.declared.moments.Closed.{Closed}
 use Rattle.one_reading.specs.declared.quick.Passed.{Passed}
-use Rattle.one_reading.specs.Promises.{Going, Sound, Reads}
+use Rattle.one_reading.specs.Promises.{Faulty, Going, Sound, Reads}
 use Rattle.one_reading.specs.Parts.{Closes, PassesOn}
 
 -- So many samples are filled in, and the track behind them is sound.
@@ -35,10 +34,10 @@ module _ (dump : List ℕ) (from : Track) (elapsed₀ levels₀ : List ℕ) wher
   pub reading-first : length elapsed₀ ≡ length levels₀ → Sound dump from → Reading dump from elapsed₀ levels₀ from 0 elapsed₀ levels₀
   reading-first h s = record { filling = filling-none dump (from .mark) elapsed₀ levels₀ h; sound = s }
 
-  -- What is wrong says nothing.
-  pub reads-wrong : (r : Went) (elapsed levels : List ℕ) → r .sound ≡ false → Reads dump from elapsed₀ levels₀ r elapsed levels
-  reads-wrong r elapsed levels e =
-      record { rows = λ h. absurd (true≢false (sym h ∙ e)); track = λ h. absurd (true≢false (sym h ∙ e)) }
+  -- A moment in which something is wrong.
+  pub reads-wrong : (r : Went) (elapsed levels : List ℕ) → r .sound ≡ false → Faulty dump → Reads dump from elapsed₀ levels₀ r elapsed levels
+  reads-wrong r elapsed levels e w =
+      record { rows = λ h. absurd (true≢false (sym h ∙ e)); track = λ h. absurd (true≢false (sym h ∙ e)); faulty = λ h. w }
 
   module _ (track : Track) (i : ℕ) (elapsed levels : List ℕ) (r : Reading dump from elapsed₀ levels₀ track i elapsed levels) where
     -- The rows are full, or no sample is left.
@@ -47,6 +46,7 @@ module _ (dump : List ℕ) (from : Track) (elapsed₀ levels₀ : List ℕ) wher
         record {
           rows = λ e. filled-full dump (from .mark) elapsed₀ levels₀ (track .mark) i elapsed levels (r .filling) h;
           track = λ e. r .sound;
+          faulty = λ e. absurd (true≢false e);
         }
 
     pub reads-over : track .mark .over ≡ true
@@ -55,6 +55,7 @@ module _ (dump : List ℕ) (from : Track) (elapsed₀ levels₀ : List ℕ) wher
         record {
           rows = λ e. filled-over dump (from .mark) elapsed₀ levels₀ (track .mark) i elapsed levels (r .filling) o;
           track = λ e. r .sound;
+          faulty = λ e. absurd (true≢false e);
         }
 
     -- A repeat of the old levels more.

@@ -1,5 +1,5 @@
 -- Laws of passing plain tokens and filling in their samples. Assumes nothing.
-use Prim.Native.Nat.{ℕ, suc, _+_, _-_, _/_, _≤_, _<_}
+use Prim.Native.Nat.{ℕ, _+_, _-_, _/_, _≤_, _<_}
 use mathlib.Core.Bool.{Bool, true, false}
 use mathlib.Core.List.{List, [], _∷_}
 use mathlib.Core.Path.{_≡_, refl, ap, sym, _∙_}
@@ -15,8 +15,8 @@ use Rattle.dumps.specs.Defined.{bodyAt}
 use Rattle.dumps.specs.Samples.{Moment, momentsFrom, repeatsOf, spread}
 use Rattle.changes.specs.declared.Mode.the-variants.{Between}
 use Rattle.changes.specs.declared.Change.the-variants.{Time, Value}
-use Rattle.changes.specs.Parts.{changeMeant}
-use Rattle.glances.specs.declared.Past.{Past}
+use Rattle.changes.proofs.Meanings.{means-time, means-value}
+use Rattle.tokens.specs.declared.Past.{Past}
 use Rattle.glances.specs.declared.Seen.{Seen}
 use Rattle.glances.specs.Parts.{Sees, SeesTime, Skims}
 use Rattle.glances.proofs.SeenPast.{seen-time}
@@ -24,21 +24,26 @@ use Rattle.judging.proofs.PlainLaws.{Passing, passing-value, passing-time}
 use Rattle.pieces.specs.declared.Mark.{Mark}
 use Rattle.pieces.specs.Marks.{leftFrom}
 use Rattle.pieces.specs.Parts.{Filling}
-use Rattle.pieces.specs.Promises as promises
+use Rattle.pieces.specs.Parts as parts
 use Rattle.pieces.proofs.Filling.{filling-near}
 use Rattle.pieces.proofs.Turns.{moment-time, moment-value}
 use Rattle.one_reading.specs.declared.Track.{Track}
 use Rattle.one_reading.specs.declared.quick.Passed.{Passed}
 use Rattle.one_reading.specs.Promises.{Going}
-use Rattle.one_reading.specs.Parts.{passedAt, PassesOn}
+use Rattle.one_reading.specs.Parts.{PassesOn}
 
-means-value : (c marks : ℕ) → changeMeant (Value c marks) ≡ puts c marks
-unfolding changeMeant
-means-value c marks = refl
-
-means-time : (t : ℕ) → changeMeant (Time t) ≡ times t
-unfolding changeMeant
-means-time t = refl
+-- Where plain tokens end, by the numbers.
+abbrev passedAt : ℕ → ℕ → ℕ → ℕ → ℕ → ℕ → ℕ → ℕ → ℕ → Passed
+passedAt at line lines time given samples left level count =
+    record {
+      count = count;
+      track =
+          record {
+            mark = record { over = false; at = at; time = time; left = left; level = level };
+            line = line;
+            heard = record { lines = lines; time = time; given = given; samples = samples };
+          };
+    }
 
 -- A mark on the way.
 abbrev open-at : ℕ → ℕ → ℕ → ℕ → Mark
@@ -130,7 +135,7 @@ module _ (dump : List ℕ) (t : Track) (count : ℕ) (elapsed₀ levels₀ : Lis
       → Running dump t count elapsed₀ levels₀ to on lines time samples left l i elapsed levels
   running-value to on c marks v l s h g q w u =
       let e =
-      moment-value dump Between true at line (s .from) to on (s .word) (Value c marks) (means-value c marks ∙ sym (s .said)) time level c marks refl in
+      moment-value dump Between true at line (s .from) to on (s .word) (Value c marks) (means-value _ c marks refl ∙ sym (s .said)) time level c marks refl in
       record {
         passing = passing-value dump (t .mark .at) (t .heard .given) at line lines time samples (r .passing) to on c marks s h g;
         near = r .near;
@@ -146,12 +151,12 @@ module _ (dump : List ℕ) (t : Track) (count : ℕ) (elapsed₀ levels₀ : Lis
 
   -- A time that makes one sample more.
   module _ (past : Past) (seen : Seen) (k : Skims dump at line past) (m : SeesTime dump (past .at) seen) (above : time < seen .time) where
-    time-moves : promises.Moves dump at level (record { over = false; at = past .at + seen .length; time = seen .time; level = level })
+    time-moves : parts.Moves dump at level (record { over = false; at = past .at + seen .length; time = seen .time; level = level })
     time-moves =
         let s = seen-time dump at line past k seen m (λ (e : seen .length ≡ 0). omega (arith, m .none e)) in
         record {
           moments = λ now. moment-time dump Between true at line (s .from) (past .at + seen .length) (past .line) (s .word) (Time (seen .time))
-              (means-time (seen .time) ∙ sym (s .said)) now level (seen .time) refl;
+              (means-time _ (seen .time) refl ∙ sym (s .said)) now level (seen .time) refl;
           low = λ h. h;
         }
 

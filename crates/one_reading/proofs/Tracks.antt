@@ -1,6 +1,6 @@
 -- Laws of a track on the way, for those who follow it. Assumes nothing.
 use Prim.Native.Nat.{ℕ, _+_, _-_, _≤_}
-use mathlib.Core.Bool.{Bool, true, false}
+use mathlib.Core.Bool.{true, false}
 use mathlib.Core.List.{List}
 use mathlib.Core.Path.{_≡_, refl, ap, sym, _∙_}
 use native.Mathlib.Omega.{arith}
@@ -10,8 +10,8 @@ use borrow.Author.Tests.{lt-ltb}
 use Rattle.sections.specs.declared.Place.the-variants as place
 use Rattle.tokens.specs.Tokens.{wordsOf}
 use Rattle.dumps.specs.Defined.{bodyAt}
-use Rattle.dumps.specs.Samples.{Sample, samplesIn, repeatsOf}
-use Rattle.judging.specs.Parts.{laterOf}
+use Rattle.dumps.specs.Samples.{samplesIn, repeatsOf}
+use Rattle.judging.specs.Parts.{laterOf, mostCounted}
 use Rattle.judging.proofs.CountLaws.{later-spread}
 use Rattle.pieces.specs.Marks.{leftFrom}
 use Rattle.one_reading.specs.declared.Track.{Track}
@@ -34,7 +34,7 @@ left-length dump t o =
 -- The place of the next sample is no more than the characters read and the time together.
 pub next-small : (dump : List ℕ) (t : Track) → Going dump t → t .mark .over ≡ false → (first : ℕ)
     → leftFrom dump (t .mark) ≡ drop first (samplesIn dump) → length dump ≤ 9223372036854775808
-    → first ≤ 9223372036854775808 + 4294967295
+    → first ≤ mostCounted
 next-small dump t g o first e m =
     let k = g .kept in
     let later = laterOf (bodyAt dump place.Between true) (wordsOf (drop (t .mark .at) dump)) (t .mark .time) in

@@ -15,22 +15,14 @@ ghost use mathlib.Core.Path.{_≡_};
 ghost use mathlib.Core.Bool.{false};
 ghost use Prim.Native.Nat.{_≤_};
 ghost use lib.ListN.{length};
+ghost use Rattle.ground.specs.Numbers.{mostElapsed};
 ghost use Rattle.dumps.specs.Defined.{varsOf};
-ghost use Rattle.headings.specs.Parts.{Defines, Tabled};
+ghost use Rattle.headings.specs.Parts.{Defines, Tabled, noFault};
 ghost use Rattle.changes.specs.declared.Mode.the-variants.{Between};
-ghost use Rattle.judging.specs.Kept.{Kept, noFault};
+ghost use Rattle.judging.specs.Parts.{nothingHeard};
+ghost use Rattle.judging.specs.Kept.{Kept};
 ghost use Rattle.one_reading.specs.Promises.{Going, Sound, Starts, Reads};
-ghost use Rattle.one_reading.specs.Parts.{unheard, StartsAt, PassesOn};
-
-const MOST_ELAPSED: u64 = 100_000;
-
-// Before the first token.
-const UNHEARD: Heard = Heard {
-    lines: 0,
-    time: 0,
-    given: 0,
-    samples: 0,
-};
+ghost use Rattle.one_reading.specs.Parts.{StartsFrom, PassesOn};
 
 // Where a dump is left without a fault: the mark of the next sample, its line, and what was heard up to there.
 pub struct Track {
@@ -67,7 +59,7 @@ fn wrong() -> Started
                 level: 0,
             },
             line: 0,
-            heard: UNHEARD,
+            heard: judging::UNHEARD,
         },
     }
 }
@@ -75,8 +67,8 @@ fn wrong() -> Started
 // Reads up to the first time line behind the definitions.
 fn first_time(dump: &[u8], table: &[u8], from: usize, on: usize) -> Started
     requires { ⌜ Tabled (varsOf (now dump)) (now table) ⌝ }
-    requires { ⌜ Kept (now dump) «from» on noFault Between unheard ⌝ }
-    ensures { λ r. ⌜ StartsAt (now (dump .entry)) «from» r ⌝ }
+    requires { ⌜ Kept (now dump) «from» on noFault Between nothingHeard ⌝ }
+    ensures { λ r. ⌜ StartsFrom (now (dump .entry)) «from» r ⌝ }
 {
     let mut at = from;
     let mut line = on;
@@ -96,7 +88,7 @@ fn first_time(dump: &[u8], table: &[u8], from: usize, on: usize) -> Started
         line = next;
         match change {
             Change::Time(time) => {
-                let heard = judging::take_time(UNHEARD, time, true);
+                let heard = judging::take_time(judging::UNHEARD, time, true);
                 return Started {
                     sound: true,
                     track: Track {
@@ -133,12 +125,13 @@ pub fn start(dump: &[u8], table: &[u8], heading: Heading) -> Started
     requires { ⌜ Defines (now dump) heading (now table) ⌝ }
     ensures { λ r. ⌜ Starts (now (dump .entry)) r ⌝ }
 {
-    if heading.over {
-        if heading.fault.number == 0 {
-            return first_time(dump, table, heading.at, heading.line);
-        }
+    if !heading.over {
+        return wrong();
     }
-    wrong()
+    if heading.fault.number != 0 {
+        return wrong();
+    }
+    first_time(dump, table, heading.at, heading.line)
 }
 
 // Passes plain tokens where they can be passed.
@@ -153,7 +146,7 @@ fn pass(
     requires { ⌜ Tabled (varsOf (now dump)) (now table) ⌝ }
     requires { ⌜ Going (now dump) track ⌝ }
     requires { ⌜ track .mark .over ≡ false ⌝ }
-    requires { ⌜ track .mark .left ≤ 100000 ⌝ }
+    requires { ⌜ track .mark .left ≤ mostElapsed ⌝ }
     requires { ⌜ count ≤ length (now levels) ⌝ }
     requires { ⌜ length (now elapsed) ≡ length (now levels) ⌝ }
     ensures { λ r. ⌜ PassesOn (now (dump .entry)) track count (now (elapsed .entry)) (now (levels .entry)) r (now (elapsed .exit)) (now (levels .exit)) ⌝ }
@@ -183,11 +176,11 @@ pub fn fill(dump: &[u8], table: &[u8], from: Track, elapsed: &mut [u32], levels:
                 track,
             };
         }
-        if track.mark.left > MOST_ELAPSED {
+        if track.mark.left > pieces::MOST_ELAPSED {
             let next = i + 1;
-            elapsed[i] = MOST_ELAPSED as u32;
+            elapsed[i] = pieces::MOST_ELAPSED as u32;
             levels[i] = track.mark.level;
-            let left = track.mark.left - MOST_ELAPSED;
+            let left = track.mark.left - pieces::MOST_ELAPSED;
             track.mark.left = left;
             i = next;
         } else {

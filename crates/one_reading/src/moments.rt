@@ -9,11 +9,10 @@ use wires::values;
 ghost use mathlib.Core.Path.{_≡_};
 ghost use mathlib.Core.Bool.{false};
 ghost use Prim.Native.Nat.{_≤_};
-ghost use lib.ListN.{length};
 ghost use Rattle.dumps.specs.Defined.{varsOf};
-ghost use Rattle.headings.specs.Parts.{Tabled};
+ghost use Rattle.headings.specs.Parts.{Tabled, noFault};
 ghost use Rattle.changes.specs.declared.Mode.the-variants.{Between};
-ghost use Rattle.judging.specs.Kept.{Kept, noFault};
+ghost use Rattle.judging.specs.Kept.{Kept};
 ghost use Rattle.one_reading.specs.Parts.{Closes};
 
 // The end of a moment: whether nothing is wrong up to there; its levels, with the time line behind it, if there is one; the line; and what

@@ -3,59 +3,22 @@ use crate::Track;
 use judging::Heard;
 use pieces::Mark;
 use wires::marks;
+use wires::times;
 ghost use mathlib.Core.Path.{_≡_};
 ghost use mathlib.Core.Bool.{false};
 ghost use Prim.Native.Nat.{_≤_};
 ghost use lib.ListN.{length};
+ghost use Rattle.wires.specs.Wires.{allWires};
+ghost use Rattle.ground.specs.Numbers.{mostElapsed};
 ghost use Rattle.dumps.specs.Defined.{varsOf};
 ghost use Rattle.headings.specs.Parts.{Tabled};
 ghost use Rattle.one_reading.specs.Promises.{Going};
-ghost use Rattle.one_reading.specs.Parts.{PassesOn, passedAt};
-
-// Half of the character `0`, and of `1`.
-const ZERO_OR_ONE: u8 = 0x18;
-
-const MOST_ELAPSED: u64 = 100_000;
+ghost use Rattle.one_reading.specs.Parts.{PassesOn};
 
 // How many samples are filled in, and where plain tokens end.
 pub struct Passed {
     pub count: usize,
     pub track: Track,
-}
-
-// The same by the numbers.
-fn passed_at(
-    at: usize,
-    line: usize,
-    lines: usize,
-    time: u64,
-    given: u8,
-    samples: usize,
-    left: u64,
-    level: u8,
-    count: usize,
-) -> Passed
-    ensures { λ r. ⌜ r ≡ passedAt at line lines time given samples left level count ⌝ }
-{
-    Passed {
-        count,
-        track: Track {
-            mark: Mark {
-                over: false,
-                at,
-                time,
-                left,
-                level,
-            },
-            line,
-            heard: Heard {
-                lines,
-                time,
-                given,
-                samples,
-            },
-        },
-    }
 }
 
 // Passes plain tokens while all wires have values: values of 0 and 1, and times above the one before that make one sample, as long as the
@@ -71,8 +34,8 @@ pub fn pass(
     requires { ⌜ Tabled (varsOf (now dump)) (now table) ⌝ }
     requires { ⌜ Going (now dump) «from» ⌝ }
     requires { ⌜ «from» .mark .over ≡ false ⌝ }
-    requires { ⌜ «from» .mark .left ≤ 100000 ⌝ }
-    requires { ⌜ «from» .heard .given ≡ 15 ⌝ }
+    requires { ⌜ «from» .mark .left ≤ mostElapsed ⌝ }
+    requires { ⌜ «from» .heard .given ≡ allWires ⌝ }
     requires { ⌜ 2 ≤ «from» .heard .lines ⌝ }
     requires { ⌜ count ≤ length (now levels) ⌝ }
     requires { ⌜ length (now elapsed) ≡ length (now levels) ⌝ }
@@ -88,93 +51,33 @@ pub fn pass(
     let mut i = count;
     loop {
         if dump.len() - at < glances::FAR {
-            return passed_at(
-                at,
-                line,
-                lines,
-                time,
-                from.heard.given,
-                samples,
-                left,
-                level,
-                i,
-            );
+            break;
         }
         let past = glances::past_blank(dump, at, line);
         let begins = past.at;
         let first = dump[begins];
-        if first / 2 == ZERO_OR_ONE {
+        if first / 2 == glances::ZERO_OR_ONE {
             let marks = glances::marks_at(dump, table, begins);
             if marks == 0 {
-                return passed_at(
-                    at,
-                    line,
-                    lines,
-                    time,
-                    from.heard.given,
-                    samples,
-                    left,
-                    level,
-                    i,
-                );
+                break;
             }
             at = begins + 2;
             line = past.line;
             level = marks::lay(first % 2, marks, level);
         } else {
-            if first != glances::HASH {
-                return passed_at(
-                    at,
-                    line,
-                    lines,
-                    time,
-                    from.heard.given,
-                    samples,
-                    left,
-                    level,
-                    i,
-                );
+            if first != times::HASH {
+                break;
             }
             if i >= levels.len() {
-                return passed_at(
-                    at,
-                    line,
-                    lines,
-                    time,
-                    from.heard.given,
-                    samples,
-                    left,
-                    level,
-                    i,
-                );
+                break;
             }
             let seen = glances::time_at(dump, begins);
             let now = seen.time;
             if now <= time {
-                return passed_at(
-                    at,
-                    line,
-                    lines,
-                    time,
-                    from.heard.given,
-                    samples,
-                    left,
-                    level,
-                    i,
-                );
+                break;
             }
-            if now - time > MOST_ELAPSED {
-                return passed_at(
-                    at,
-                    line,
-                    lines,
-                    time,
-                    from.heard.given,
-                    samples,
-                    left,
-                    level,
-                    i,
-                );
+            if now - time > pieces::MOST_ELAPSED {
+                break;
             }
             elapsed[i] = left as u32;
             levels[i] = level;
@@ -186,5 +89,24 @@ pub fn pass(
             left = now - time;
             time = now;
         }
+    }
+    Passed {
+        count: i,
+        track: Track {
+            mark: Mark {
+                over: false,
+                at,
+                time,
+                left,
+                level,
+            },
+            line,
+            heard: Heard {
+                lines,
+                time,
+                given: from.heard.given,
+                samples,
+            },
+        },
     }
 }

@@ -7,3 +7,7 @@ use Rattle.part.specs.declared.state.State.{State}
 pub record Part : Type 0 where
   pub state : State
   pub array : List ℕ
+
+-- A state with an array beside it, as a part on the bench.
+abbrev pub partOf : State → List ℕ → Part
+partOf s array = record { state = s; array = array }

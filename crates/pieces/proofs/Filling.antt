@@ -18,7 +18,8 @@ use Rattle.pieces.specs.declared.Moved.{Moved}
 use Rattle.pieces.specs.declared.Filled.{Filled}
 use Rattle.pieces.specs.Marks.{leftFrom}
 use Rattle.pieces.specs.Parts.{behindBy, Filling}
-use Rattle.pieces.specs.Promises.{Moves, Fills, FillsRoom, laterBy}
+use Rattle.pieces.specs.Promises.{Fills}
+use Rattle.pieces.specs.Parts.{Moves, FillsRoom, unlessOver}
 
 -- A dump that is over has no samples left.
 pub left-over : (dump : List ℕ) (m : Mark) → m .over ≡ true → leftFrom dump m ≡ []
@@ -42,8 +43,8 @@ left-far dump m h k =
 
 -- Behind a moment the time to the next one is left.
 left-behind : (dump : List ℕ) (time : ℕ) (moved : Moved) (over : Bool)
-    → spread (gapTo time (laterBy over (moments dump (moved .at) (moved .time) (moved .level)))) (moved .level)
-    (laterBy over (moments dump (moved .at) (moved .time) (moved .level)))
+    → spread (gapTo time (unlessOver over (moments dump (moved .at) (moved .time) (moved .level)))) (moved .level)
+    (unlessOver over (moments dump (moved .at) (moved .time) (moved .level)))
     ≡ leftFrom dump (behindBy over time moved)
 unfolding leftFrom
 left-behind dump time moved true = refl
@@ -55,7 +56,7 @@ left-near : (dump : List ℕ) (m : Mark) → m .over ≡ false → (moved : Move
     → leftFrom dump m ≡ record { elapsed = m .left; level = moved .level } ∷ leftFrom dump (behindBy (moved .over) (m .time) moved)
 unfolding leftFrom
 left-near dump m h moved k e =
-    let later = laterBy (moved .over) (moments dump (moved .at) (moved .time) (moved .level)) in
+    let later = unlessOver (moved .over) (moments dump (moved .at) (moved .time) (moved .level)) in
     rw (h, e .moments (m .time))
     (spread-near (m .left) (m .level) (record { time = m .time; level = moved .level }) later k
     ∙ ap (λ (ss : List Sample). record { elapsed = m .left; level = moved .level } ∷ ss) (left-behind dump (m .time) moved (moved .over)))

@@ -4,7 +4,7 @@ use mathlib.Core.Bool.{Bool, true, false}
 use mathlib.Core.List.{List, [], _∷_, map}
 use mathlib.Core.Path.{_≡_, refl, ap, _∙_}
 use native.Mathlib.Omega.{arith}
-use lib.ListN.{length, take, drop}
+use lib.ListN.{length, take, drop, length-map}
 use lib.Seq.{length-take-le, take-at}
 use borrow.Author.Tests.{le-leb}
 use Rattle.ground.specs.Numbers.{mostElapsed, mostLevel}
@@ -44,17 +44,13 @@ pub piece-taken : (dump : List ℕ) (m : Mark) (n : ℕ) (v : Verdict) → m .le
     → limits.samplesOf 0 (elapsedOf (take n (leftFrom dump m))) (levelsOf (take n (leftFrom dump m))) v ≡ v
 piece-taken dump m n v h = small-taken 0 (take n (leftFrom dump m)) v (take-small n (leftFrom dump m) (left-small dump m h))
 
-map-length : (f : Sample → ℕ) (ss : List Sample) → length (map f ss) ≡ length ss
-map-length f [] = refl
-map-length f (s ∷ ss) = rw (map-length f ss)
-
 -- What a piece has filled in of the rows.
 module _ (dump : List ℕ) (m : Mark) (elapsed levels : List ℕ) (r : Filled) (elapsed′ levels′ : List ℕ)
     (f : Fills dump m elapsed levels r elapsed′ levels′) where
   count-length : (g : Sample → ℕ) → length (map g (take (r .count) (leftFrom dump m))) ≡ r .count
   count-length g =
       let c = f .count in
-      map-length g (take (r .count) (leftFrom dump m)) ∙ length-take-le (r .count) (leftFrom dump m) (omega arith)
+      length-map (take (r .count) (leftFrom dump m)) g ∙ length-take-le (r .count) (leftFrom dump m) (omega arith)
 
   pub piece-times : take (r .count) elapsed′ ≡ elapsedOf (take (r .count) (leftFrom dump m))
   piece-times = ap (take (r .count)) (f .times) ∙ take-at _ _ (r .count) (count-length (λ (s : Sample). s .elapsed))

@@ -3,7 +3,7 @@ use Prim.Native.Nat.{ℕ, zero, suc, _/_, _%_, _≤_, min}
 use mathlib.Core.Bool.{Bool, true, false}
 use mathlib.Core.List.{List, [], _∷_}
 use mathlib.Core.Path.{_≡_, refl, ap, sym, _∙_}
-use native.Mathlib.Nat.{zero-min, suc-min-suc, min-zero, min-le-right}
+use native.Mathlib.Nat.{zero-min, suc-min-suc, min-zero}
 use native.Mathlib.Omega.{arith}
 use lib.Dec.{eqb}
 use lib.ListN.{length, drop}
@@ -17,21 +17,13 @@ use Rattle.dumps.specs.Defined.{bodyAt}
 use Rattle.dumps.specs.Samples.{momentsFrom}
 use Rattle.changes.specs.declared.Mode.the-variants.{Between}
 use Rattle.changes.specs.declared.Change.the-variants.{Time, Value}
-use Rattle.changes.specs.Parts.{changeMeant}
+use Rattle.changes.proofs.Meanings.{means-time, means-value}
 use Rattle.glances.specs.Parts.{Sees}
 use Rattle.pieces.specs.declared.Moved.{Moved}
 use Rattle.pieces.specs.declared.quick.Taken.{Taken}
-use Rattle.pieces.specs.Promises as promises
-use Rattle.pieces.specs.Promises.{Takes, takenBy}
+use Rattle.pieces.specs.Parts as parts
+use Rattle.pieces.specs.Parts.{Takes, asFarAs}
 use Rattle.pieces.proofs.Reading.{Moving, moving-value, moves-time}
-
-means-value : (c marks : ℕ) → changeMeant (Value c marks) ≡ puts c marks
-unfolding changeMeant
-means-value c marks = refl
-
-means-time : (t : ℕ) → changeMeant (Time t) ≡ times t
-unfolding changeMeant
-means-time t = refl
 
 -- The level of a value of 0 or 1.
 level-by : (c : ℕ) (b : Bool) → eqb c 0x31 ≡ b → c / 2 ≡ 0x18 → c % 2 ≡ levelOf c
@@ -54,14 +46,14 @@ module _ (dump : List ℕ) (start level at levels : ℕ) (m : Moving dump start 
         → Moving dump start level to 0 Between l
     plain-value c marks s v k n =
         let r =
-        moving-value dump start level at 0 Between levels m (s .from) to on (s .word) (Value c marks) (means-value c marks ∙ sym (s .said)) c marks refl v k n in
+        moving-value dump start level at 0 Between levels m (s .from) to on (s .word) (Value c marks) (means-value _ c marks refl ∙ sym (s .said)) c marks refl v k n in
         record { inside = r .inside; small = omega arith; moments = r .moments; low = r .low }
 
     pub plain-time : (t : ℕ) → Sees dump at 0 to on (times t)
         → Takes dump start level (record { closed = true; at = to; time = t; level = levels })
     plain-time t s =
         let r =
-        moves-time dump start level at 0 Between levels m (s .from) to on (s .word) (Time t) (means-time t ∙ sym (s .said)) t refl in
+        moves-time dump start level at 0 Between levels m (s .from) to on (s .word) (Time t) (means-time _ t refl ∙ sym (s .said)) t refl in
         record { inside = s .word .inside; moments = r .moments; low = r .low }
 
 -- A place past the end is the end.
@@ -72,22 +64,19 @@ drop-min (suc n) (x ∷ xs) = rw (suc-min-suc n (length xs)) (drop-min n xs)
 
 -- The values of a moment: the plain ones, and those behind them.
 module _ (dump : List ℕ) (start at level : ℕ) (e : at ≡ min start (length dump)) where
-  pub place-inside : at ≤ length dump
-  place-inside = rw e (min-le-right start (length dump))
-
   same-moments : (time : ℕ) → momentsFrom (bodyAt dump place.Between true) (wordsOf (drop start dump)) time level
       ≡ momentsFrom (bodyAt dump place.Between true) (wordsOf (drop at dump)) time level
   same-moments time = rw (e, drop-min start dump)
 
   module _ (r : Taken) (t : Takes dump at level r) where
     pub taken-closed : r .closed ≡ true
-        → promises.Moves dump start level (record { over = false; at = r .at; time = r .time; level = r .level })
+        → parts.Moves dump start level (record { over = false; at = r .at; time = r .time; level = r .level })
     taken-closed c =
-        record { moments = λ time. same-moments time ∙ t .moments time ∙ ap (takenBy dump time r) c; low = t .low }
+        record { moments = λ time. same-moments time ∙ t .moments time ∙ ap (asFarAs dump time r) c; low = t .low }
 
-    pub taken-left : (v : Moved) → r .closed ≡ false → promises.Moves dump (r .at) (r .level) v → promises.Moves dump start level v
+    pub taken-left : (v : Moved) → r .closed ≡ false → parts.Moves dump (r .at) (r .level) v → parts.Moves dump start level v
     taken-left v c m =
         record {
-          moments = λ time. same-moments time ∙ t .moments time ∙ ap (takenBy dump time r) c ∙ m .moments time;
+          moments = λ time. same-moments time ∙ t .moments time ∙ ap (asFarAs dump time r) c ∙ m .moments time;
           low = λ h. m .low (t .low h);
         }

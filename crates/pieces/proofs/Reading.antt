@@ -1,7 +1,7 @@
 -- Laws of reading on behind the definitions: what is left from a place on gives the same. Assumes nothing.
 use Prim.Native.Nat.{ℕ, _-_, _≤_}
 use mathlib.Core.Bool.{Bool, true, false, true≢false}
-use mathlib.Core.List.{List, [], _∷_}
+use mathlib.Core.List.{List, []}
 use mathlib.Core.Path.{_≡_, refl, sym, _∙_}
 use native.Mathlib.Omega.{arith}
 use lib.ListN.{length, take, drop}
@@ -23,7 +23,8 @@ use Rattle.changes.specs.Parts.{placeOf, changeMeant}
 use Rattle.pieces.specs.declared.Mark.{Mark}
 use Rattle.pieces.specs.Marks.{leftFrom}
 use Rattle.pieces.specs.Parts.{overMark}
-use Rattle.pieces.specs.Promises as promises
+use Rattle.pieces.specs.Parts as parts
+use Rattle.pieces.specs.Promises.{Begins}
 use Rattle.pieces.proofs.Turns.{no-value, moment-time, moment-value, moment-moves, moment-breaks, moment-none, sample-time, sample-moves, sample-breaks, sample-none}
 
 -- What is left of a moment's values.
@@ -67,18 +68,18 @@ module _ (dump : List ℕ) (start level at on : ℕ) (mode : Mode) (levels : ℕ
 
   -- A time line closes the moment, and nothing counts behind a malformed token.
   pub moves-time : (t : ℕ) → r ≡ Time t
-      → promises.Moves dump start level (record { over = false; at = to; time = t; level = levels })
+      → parts.Moves dump start level (record { over = false; at = to; time = t; level = levels })
   moves-time t h =
       record { moments = λ time. m .moments time ∙ moment-time dump mode true at on from to line f r e time levels t h; low = m .low }
 
   pub moves-breaks : {at′ : ℕ} → r ≡ Breaks
-      → promises.Moves dump start level (record { over = true; at = at′; time = 0; level = levels })
+      → parts.Moves dump start level (record { over = true; at = at′; time = 0; level = levels })
   moves-breaks h =
       record { moments = λ time. m .moments time ∙ moment-breaks dump mode true at on from to line f r e time levels h; low = m .low }
 
 -- The last moment ends with the dump.
 pub moves-none : (dump : List ℕ) (start level at on : ℕ) (mode : Mode) (levels : ℕ) {at′ time′ : ℕ} → Moving dump start level at on mode levels
-    → tokensFrom on (drop at dump) ≡ [] → promises.Moves dump start level (record { over = true; at = at′; time = time′; level = levels })
+    → tokensFrom on (drop at dump) ≡ [] → parts.Moves dump start level (record { over = true; at = at′; time = time′; level = levels })
 moves-none dump start level at on mode levels m e =
     record { moments = λ time. m .moments time ∙ moment-none dump mode true at on e time levels; low = m .low }
 
@@ -91,12 +92,12 @@ pub record Starting (dump : List ℕ) (start at on : ℕ) (mode : Mode) : Type 0
 
 -- Nothing is left where there are no samples.
 pub starts-over : (dump : List ℕ) (start : ℕ) {r : Mark} → r ≡ overMark
-    → samplesFrom (bodyAt dump place.Between false) (wordsOf (drop start dump)) ≡ [] → promises.StartsAt dump start r
+    → samplesFrom (bodyAt dump place.Between false) (wordsOf (drop start dump)) ≡ [] → parts.StartsAt dump start r
 unfolding leftFrom
 starts-over dump start h e = record { left = rw (h, e); low = rw h (omega arith) }
 
 pub starts-none : (dump : List ℕ) (start at on : ℕ) (mode : Mode) {r : Mark} → Starting dump start at on mode
-    → tokensFrom on (drop at dump) ≡ [] → r ≡ overMark → promises.StartsAt dump start r
+    → tokensFrom on (drop at dump) ≡ [] → r ≡ overMark → parts.StartsAt dump start r
 starts-none dump start at on mode m e h = starts-over dump start h (m .samples ∙ sample-none dump mode false at on e)
 
 module _ (dump : List ℕ) (start at on : ℕ) (mode : Mode) (m : Starting dump start at on mode)
@@ -114,15 +115,15 @@ module _ (dump : List ℕ) (start at on : ℕ) (mode : Mode) (m : Starting dump 
 
   -- The first time line opens a moment with all levels low.
   pub starts-time : (t : ℕ) → r ≡ Time t
-      → promises.StartsAt dump start (record { over = false; at = to; time = t; left = 0; level = 0 })
+      → parts.StartsAt dump start (record { over = false; at = to; time = t; left = 0; level = 0 })
   unfolding leftFrom
   starts-time t h = record { left = sym (m .samples ∙ sample-time dump mode false at on from to line f r e t h); low = omega arith }
 
-  pub starts-breaks : {k : Mark} → r ≡ Breaks → k ≡ overMark → promises.StartsAt dump start k
+  pub starts-breaks : {k : Mark} → r ≡ Breaks → k ≡ overMark → parts.StartsAt dump start k
   starts-breaks h k = starts-over dump start k (m .samples ∙ sample-breaks dump mode false at on from to line f r e h)
 
   -- No value stands before it.
-  pub starts-value : {k : Mark} (c marks : ℕ) → r ≡ Value c marks → promises.StartsAt dump start k
+  pub starts-value : {k : Mark} (c marks : ℕ) → r ≡ Value c marks → parts.StartsAt dump start k
   starts-value c marks h = absurd (true≢false (sym (no-value dump mode false at on from to line f r e c marks h)))
 
 -- Where the definitions are not over the dump has no samples.
@@ -132,10 +133,10 @@ no-samples dump table h true d o w = d .wrong o w .1
 no-samples dump table h false d o w = d .short o w .1
 
 pub begins-over : (dump table : List ℕ) (h : Heading) {r : Mark} → Defines dump h table → h .over ≡ false → r ≡ overMark
-    → promises.Begins dump r
+    → Begins dump r
 unfolding leftFrom
 begins-over dump table h d o e = record { left = rw e (sym (no-samples dump table h (h .wrong) d o refl)); low = rw e (omega arith) }
 
 pub begins-first : (dump table : List ℕ) (h : Heading) {r : Mark} → Defines dump h table → h .over ≡ true
-    → promises.StartsAt dump (h .at) r → promises.Begins dump r
+    → parts.StartsAt dump (h .at) r → Begins dump r
 begins-first dump table h d o s = record { left = s .left ∙ sym (d .over o .1); low = s .low }

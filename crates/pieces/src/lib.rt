@@ -3,21 +3,23 @@ mod quick;
 
 use changes::Change;
 use changes::Mode;
+use ground::cases;
 use tokens::Found;
 use wires::marks;
 use wires::values;
 ghost use mathlib.Core.Path.{_≡_};
-ghost use Prim.Native.Nat.{_≤_, min};
+ghost use Prim.Native.Nat.{_≤_};
 ghost use lib.ListN.{length};
 ghost use Rattle.dumps.specs.Defined.{varsOf};
 ghost use Rattle.headings.specs.Parts.{Tabled};
-ghost use Rattle.pieces.specs.Parts.{overMark, behindBy};
-ghost use Rattle.pieces.specs.Promises.{Begins, Fills, FillsRoom, Moves, StartsAt};
+ghost use Rattle.pieces.specs.Parts.{overMark, behindBy, FillsRoom, Moves, StartsAt};
+ghost use Rattle.pieces.specs.Promises.{Begins, Fills};
 
 // The most samples of a piece.
-pub const MOST: usize = 65_536;
+pub const MOST: usize = limits::MOST_SAMPLES;
 
-const MOST_ELAPSED: u64 = 100_000;
+// The most that a sample may say has passed.
+pub const MOST_ELAPSED: u64 = limits::MOST_ELAPSED as u64;
 
 // Where a dump is left: behind the time line of the next moment, whose time it has, with what is left of the time up to it and the
 // levels before it; or over.
@@ -41,15 +43,6 @@ pub struct Moved {
     pub at: usize,
     pub time: u64,
     pub level: u8,
-}
-
-fn lesser(a: usize, b: usize) -> usize
-    ensures { λ r. ⌜ r ≡ min a b ⌝ }
-{
-    if a < b {
-        return a;
-    }
-    b
 }
 
 // A dump that is over.
@@ -118,7 +111,7 @@ fn first_time(dump: &[u8], table: &[u8], from: usize, line: usize) -> Mark
 pub fn begin(dump: &[u8]) -> Mark
     ensures { λ r. ⌜ Begins (now (dump .entry)) r ⌝ }
 {
-    let mut table = [0u8; 256];
+    let mut table = [0u8; headings::CODES];
     let heading = headings::define(dump, &mut table);
     if heading.over {
         return first_time(dump, &table, heading.at, heading.line);
@@ -131,7 +124,7 @@ fn take_values(dump: &[u8], table: &[u8], from: usize, level: u8) -> Moved
     requires { ⌜ Tabled (varsOf (now dump)) (now table) ⌝ }
     ensures { λ r. ⌜ Moves (now (dump .entry)) «from» level r ⌝ }
 {
-    let taken = quick::take_plain(dump, table, lesser(from, dump.len()), level);
+    let taken = quick::take_plain(dump, table, cases::lesser(from, dump.len()), level);
     if taken.closed {
         return Moved {
             over: false,
@@ -256,9 +249,9 @@ fn fill_room(
 pub fn fill(dump: &[u8], mark: Mark, elapsed: &mut [u32], levels: &mut [u8]) -> Filled
     ensures { λ r. ⌜ Fills (now (dump .entry)) mark (now (elapsed .entry)) (now (levels .entry)) r (now (elapsed .exit)) (now (levels .exit)) ⌝ }
 {
-    let mut table = [0u8; 256];
+    let mut table = [0u8; headings::CODES];
     headings::define(dump, &mut table);
-    let room = lesser(lesser(elapsed.len(), levels.len()), MOST);
+    let room = cases::lesser(cases::lesser(elapsed.len(), levels.len()), MOST);
     fill_room(
         dump,
         &table,

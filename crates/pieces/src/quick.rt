@@ -1,15 +1,13 @@
 // The values of a moment at a glance, as long as they are plain.
 use wires::marks;
+use wires::times;
 ghost use mathlib.Core.Path.{_≡_};
 ghost use mathlib.Core.Bool.{false};
 ghost use Prim.Native.Nat.{_≤_};
 ghost use lib.ListN.{length};
 ghost use Rattle.dumps.specs.Defined.{varsOf};
 ghost use Rattle.headings.specs.Parts.{Tabled};
-ghost use Rattle.pieces.specs.Promises.{Takes};
-
-// Half of the character `0`, and of `1`.
-const ZERO_OR_ONE: u8 = 0x18;
+ghost use Rattle.pieces.specs.Parts.{Takes};
 
 // A moment's levels as far as they were read, and the time line behind it, if it was reached.
 pub struct Taken {
@@ -46,7 +44,7 @@ pub fn take_plain(dump: &[u8], table: &[u8], from: usize, level: u8) -> Taken
         let past = glances::past_blank(dump, at, 0);
         let begins = past.at;
         let first = dump[begins];
-        if first / 2 == ZERO_OR_ONE {
+        if first / 2 == glances::ZERO_OR_ONE {
             let marks = glances::marks_at(dump, table, begins);
             if marks == 0 {
                 return left(at, levels);
@@ -54,7 +52,7 @@ pub fn take_plain(dump: &[u8], table: &[u8], from: usize, level: u8) -> Taken
             at = begins + 2;
             levels = marks::lay(first % 2, marks, levels);
         } else {
-            if first != glances::HASH {
+            if first != times::HASH {
                 return left(at, levels);
             }
             let seen = glances::time_at(dump, begins);

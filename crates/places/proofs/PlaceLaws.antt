@@ -114,6 +114,15 @@ gathers-joined ls₁ ls₂ as₁ as₂ row row₁ row₂ k before r₁ r₂ h x 
       said = rw e (y .said ∙ rw (x .said) (laid-append before r₁ ps qs row (x .count)));
     }
 
+-- The places that are left, by the sample at the index.
+pub left-cons : (ls answers : List ℕ) (first i : ℕ) → i < length ls → i < length answers
+    → (b : Bool) → b ≡ disagrees (getD ls i 0) (getD answers i 0)
+    → placesFrom (first + i) (drop i ls) (drop i answers)
+    ≡ placeBy b (first + i) (placesFrom (first + (i + 1)) (drop (i + 1) ls) (drop (i + 1) answers))
+left-cons ls answers first i h k b e =
+    let n : suc (first + i) ≡ first + (i + 1) = omega arith in
+    rw (e, drop-cons ls i 0 h, drop-cons answers i 0 k, n, add-one)
+
 -- A gathering that has come to an index: what is left to gather gives the whole.
 pub record Gathering (ls answers : List ℕ) (first : ℕ) (row₀ : List ℕ) (before : ℕ) (row : List ℕ) (found i : ℕ) : Type 0 where
   pub within : i ≤ length ls
@@ -138,19 +147,11 @@ module _ (ls answers : List ℕ) (first : ℕ) (row₀ : List ℕ) (before : ℕ
         record { count = omega arith; said = s ∙ sym (laid-sets before (placesFrom first ls answers) row₀) }
 
     module _ (h : i < length ls) (k : i < length answers) where
-      -- The places that are left, by the sample at the index.
-      left-cons : (b : Bool) → b ≡ disagrees (getD ls i 0) (getD answers i 0)
-          → placesFrom (first + i) (drop i ls) (drop i answers)
-          ≡ placeBy b (first + i) (placesFrom (first + (i + 1)) (drop (i + 1) ls) (drop (i + 1) answers))
-      left-cons b e =
-          let n : suc (first + i) ≡ first + (i + 1) = omega arith in
-          rw (e, drop-cons ls i 0 h, drop-cons answers i 0 k, n, add-one)
-
       -- A place that is found goes into the row, if it has room there.
       pub turn-found : (b : Bool) (row′ : List ℕ) (found′ : ℕ) → b ≡ disagrees (getD ls i 0) (getD answers i 0) → b ≡ true
           → row′ ≡ set row found (first + i) → found′ ≡ found + 1 → Gathering ls answers first row₀ before row′ found′ (i + 1)
       turn-found b row′ found′ e t r f =
-          let p = left-cons true (sym t ∙ e) in
+          let p = left-cons ls answers first i h k true (sym t ∙ e) in
           let n = ap length p in
           record {
             within = omega arith;
@@ -164,7 +165,7 @@ module _ (ls answers : List ℕ) (first : ℕ) (row₀ : List ℕ) (before : ℕ
       pub turn-passed : (b : Bool) (row′ : List ℕ) (found′ : ℕ) → b ≡ disagrees (getD ls i 0) (getD answers i 0) → b ≡ false
           → row′ ≡ row → found′ ≡ found → Gathering ls answers first row₀ before row′ found′ (i + 1)
       turn-passed b row′ found′ e t r f =
-          let p = left-cons false (sym t ∙ e) in
+          let p = left-cons ls answers first i h k false (sym t ∙ e) in
           record {
             within = omega arith;
             few = omega (arith, g .few);

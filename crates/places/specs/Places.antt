@@ -57,11 +57,11 @@ abbrev pub reportBy : Verdict → ℕ → Verdict
 reportBy (accepted n) count = accepted count
 reportBy (refused k p) count = refused k p
 
--- The array after a report: refused, as it was (Refusal numbers, any other refusal).
+-- The array, or the row of places, after a report: refused, as it was (Refusal numbers, any other refusal).
 abbrev pub arrayBy : Verdict → List ℕ → List ℕ → List ℕ
 arrayBy (accepted n) after array = after
 arrayBy (refused k p) after array = array
 
--- Places laid over a row from its start, as far as it goes; the rest of it stays.
+-- Places laid over a row from its start, as far as it goes; the rest of it stays (Leaving no slack, each lent row).
 abbrev pub laidOver : List ℕ → List ℕ → List ℕ
 laidOver ps row = take (length row) ps ++ drop (length ps) row

@@ -1,6 +1,7 @@
 // The places where a dump and the twin disagree, gathered from the rows of one piece.
+use ground::cases;
 ghost use mathlib.Core.Path.{_≡_};
-ghost use Prim.Native.Nat.{_≤_, _+_, min};
+ghost use Prim.Native.Nat.{_≤_, _+_};
 ghost use lib.ListN.{length};
 ghost use Rattle.places.specs.Places.{disagrees};
 ghost use Rattle.places.specs.Parts.{Gathers, LaysOut};
@@ -42,21 +43,11 @@ pub fn gather(
     found
 }
 
-// The lesser of two numbers.
-fn lesser(a: usize, b: usize) -> usize
-    ensures { λ r. ⌜ r ≡ min a b ⌝ }
-{
-    if a < b {
-        return a;
-    }
-    b
-}
-
 // Lays the first places of a room over a row, if the room holds all that the row wants.
 pub fn lay_out(room: &[u64], found: usize, places: &mut [u64]) -> bool
     ensures { λ r. ⌜ LaysOut (now (room .entry)) found (now (places .entry)) (now (places .exit)) r ⌝ }
 {
-    let wanted = lesser(found, places.len());
+    let wanted = cases::lesser(found, places.len());
     if wanted > room.len() {
         return false;
     }

@@ -15,7 +15,8 @@ use part::state::Talk;
 ghost use mathlib.Core.Path.{_≡_};
 ghost use Prim.Native.Nat.{_≤_};
 ghost use lib.ListN.{length};
-ghost use Rattle.clocks.specs.Goes.{Goes, partOf};
+ghost use Rattle.part.specs.Bench.{partOf};
+ghost use Rattle.clocks.specs.Goes.{Goes};
 ghost use Rattle.clocks.specs.Clocks.{spokenOf};
 ghost use Rattle.plain.specs.Awake.{Goes-on};
 

@@ -10,7 +10,8 @@ use sample::steps;
 ghost use mathlib.Core.Path.{_≡_};
 ghost use Prim.Native.Nat.{_≤_};
 ghost use lib.ListN.{length};
-ghost use Rattle.clocks.specs.Goes.{Goes, partOf};
+ghost use Rattle.part.specs.Bench.{partOf};
+ghost use Rattle.clocks.specs.Goes.{Goes};
 
 // Goes on from the sample `from`, answers each sample that it passes, and may stop before any.
 pub fn ahead(

@@ -9,7 +9,7 @@ ghost use lib.ListN.{length};
 ghost use Rattle.ground.specs.Verdict.{accepted, meant};
 ghost use Rattle.refusals.specs.Refusals.{powerOf, rowsOf, captureOf, judgedOf};
 
-pub const MOST_SAMPLES: usize = 65_536;
+const MOST_SAMPLES: usize = limits::MOST_SAMPLES;
 
 // The power-up's verdict; an accepted one has seen no sample.
 pub fn power(part: u16, select: u8, stored: u8) -> Reply

@@ -21,7 +21,7 @@ struct Content {
 
 // Writes a refusal's line.
 fn put_refusal(number: u8, place: usize) -> bool {
-    let mut line = [0u8; 42];
+    let mut line = [0u8; texts::refusals::LONGEST];
     let length = texts::refusals::put_refusal(number, place, &mut line);
     io::write_all(STDOUT_FILENO, &line[..length])
 }

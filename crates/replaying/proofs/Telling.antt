@@ -3,26 +3,21 @@ use Prim.Native.Nat.{ℕ, _+_, _*_, _≤_, _<_}
 use mathlib.Core.List.{List}
 use mathlib.Core.Path.{_≡_, sym, _∙_}
 use native.Mathlib.Omega.{arith}
-use lib.ListN.{length, take, drop, length-take, length-drop}
-use lib.Seq.{take-at, length-take-le}
-use Rattle.dumps.specs.Samples.{Sample, elapsedOf, levelsOf}
-use Rattle.sample.specs.Run.{answersOf}
+use lib.ListN.{length, take, length-drop}
+use lib.Seq.{length-take-le}
 use Rattle.pieces.specs.Marks.{leftFrom}
 use Rattle.places.specs.Places.{placesFrom}
 use Rattle.texts.specs.Laying.{Starts}
 use Rattle.listing.specs.Listing.{placesText}
 use Rattle.disagreements.specs.declared.Stand.{Stand}
 use Rattle.disagreements.specs.declared.Played.{Played}
-use Rattle.disagreements.specs.Promises.{partOf, Stands, Plays}
-use Rattle.disagreements.proofs.Piecewise.{levels-length, said-length}
+use Rattle.disagreements.specs.Promises.{Stands, Plays}
+use Rattle.disagreements.proofs.Turns.{played-bytes, played-said}
 use Rattle.replaying.specs.declared.Told.{Told}
 use Rattle.replaying.specs.Promises.{Tells}
 
 module _ (dump : List ℕ) (s : Stand) (array levels answers : List ℕ) (r : Played) (array′ levels′ answers′ : List ℕ)
     (g : Stands dump s array) (h : length levels ≡ 4096) (w : Plays dump s array levels answers r array′ levels′ answers′) where
-  piece : List Sample
-  piece = take (r .count) (leftFrom dump (s .mark))
-
   -- A piece has no more samples than are left, and than there is room for.
   pub count-left : r .count ≤ length (leftFrom dump (s .mark))
   count-left = omega (arith, w .count)
@@ -45,26 +40,15 @@ module _ (dump : List ℕ) (s : Stand) (array levels answers : List ℕ) (r : Pl
       let k : length (take (r .count) answers′) ≡ r .count = length-take-le (r .count) answers′ (omega arith) in
       (k ∙ sym n, (omega (arith, count-numbered), omega arith))
 
-  piece-length : length piece ≡ r .count
-  unfolding piece
-  piece-length = length-take (r .count) (leftFrom dump (s .mark)) ∙ omega (arith, count-left)
-
-  levels-taken : take (r .count) levels′ ≡ levelsOf piece
-  unfolding piece
-  levels-taken = rw (w .bytes) (take-at (levelsOf piece) (drop (r .count) levels) (r .count) (levels-length piece ∙ piece-length))
-
-  answers-taken : take (r .count) answers′ ≡ answersOf (elapsedOf piece) (levelsOf piece) (partOf s array)
-  unfolding piece
-  answers-taken = rw (w .said) (take-at _ (drop (r .count) answers) (r .count) (said-length piece (partOf s array) ∙ piece-length))
-
   pub piece-told : (out out′ : List ℕ) (n : ℕ)
       → Starts (placesText (placesFrom (s .next) (take (r .count) levels′) (take (r .count) answers′))) out n out′
       → Tells dump s array out (record { count = r .count; length = n; stand = r .stand }) array′ out′
-  unfolding piece
   piece-told out out′ n t =
+      let e = played-bytes dump s array levels answers r array′ levels′ answers′ w in
+      let f = played-said dump s array levels answers r array′ levels′ answers′ w in
       record {
         count = rw h at (w .count);
-        text = rw (levels-taken, answers-taken) at t;
+        text = rw (e, f) at t;
         part = w .part;
         left = w .left;
         next = w .next;

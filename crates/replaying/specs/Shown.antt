@@ -1,7 +1,7 @@
 -- What the program writes for a dump and an image (request 2026-03, the report; docs/DECISIONS.md, "2026-03, the program").
 use Prim.Native.Nat.{ℕ}
 use mathlib.Core.List.{List, []}
-use Rattle.ground.specs.Verdict.{Verdict, accepted, refused}
+use Rattle.ground.specs.Verdict.{Verdict, accepted, refused, unlessRefused}
 use Rattle.texts.specs.Refusal.{refusalLine}
 use Rattle.forms.specs.Reading.{Reading, taken, bad}
 use Rattle.tidying.specs.Shown.{textGives}
@@ -14,15 +14,10 @@ abbrev pub imageThen : Reading → (List ℕ → Verdict) → Verdict
 imageThen (taken array) next = next array
 imageThen (bad k p) next = refused k p
 
--- Part, select and stored byte are refused before the image, and that before the dump (2026-03, are refused first).
-abbrev pub startBy : Verdict → Verdict → Verdict
-startBy (accepted n) v = v
-startBy (refused k p) v = refused k p
-
--- The verdict on all that the program is given (2026-03, refused first, with their own place).
+-- The verdict on all that is given: part, select, stored byte, then the image, then the dump (2026-03, refused first, with their own place).
 unfoldable pub startVerdict : ℕ → ℕ → ℕ → List ℕ → List ℕ → Verdict
 startVerdict part select stored image dump =
-    startBy (powerOf part select stored) (imageThen (textGives part image) (λ (array : List ℕ). openVerdict part select stored dump array))
+    unlessRefused (powerOf part select stored) (imageThen (textGives part image) (λ (array : List ℕ). openVerdict part select stored dump array))
 
 -- The array that an image gives; of a refused one nothing is asked.
 abbrev pub givenBy : Reading → List ℕ

@@ -37,7 +37,7 @@ stepMeant Names = names
 stepMeant Defines = defines
 stepMeant Breaks = breaks
 
--- Which of the sections that come once have begun (2026-03, sections: each once, in that order).
+-- Before the timescale (2026-03, sections: each once, in that order).
 abbrev pub isStart : Stage → Bool
 isStart Start = true
 isStart Scaled = false
@@ -45,6 +45,7 @@ isStart Scoped = false
 isStart Closed = false
 isStart Body = false
 
+-- Behind the timescale, before the scope (2026-03, sections: each once, in that order).
 abbrev pub isScaled : Stage → Bool
 isScaled Start = false
 isScaled Scaled = true
@@ -52,6 +53,7 @@ isScaled Scoped = false
 isScaled Closed = false
 isScaled Body = false
 
+-- Inside the scope (2026-03, sections: the `$var` inside it).
 abbrev pub isScoped : Stage → Bool
 isScoped Start = false
 isScoped Scaled = false
@@ -59,6 +61,7 @@ isScoped Scoped = true
 isScoped Closed = false
 isScoped Body = false
 
+-- Behind the scope (2026-03, sections: each once, in that order).
 abbrev pub isClosed : Stage → Bool
 isClosed Start = false
 isClosed Scaled = false
@@ -66,6 +69,7 @@ isClosed Scoped = false
 isClosed Closed = true
 isClosed Body = false
 
+-- Behind the definitions (2026-03, sections).
 abbrev pub isBody : Stage → Bool
 isBody Start = false
 isBody Scaled = false
@@ -80,8 +84,7 @@ sayBy false says = breaks
 
 -- It leads to a spot if a test holds (2026-03, refusal 20).
 abbrev pub goBy : Bool → Spot → Says
-goBy true spot = moves spot
-goBy false spot = breaks
+goBy b spot = sayBy b (moves spot)
 
 -- A section that is skipped ends at its `$end`, with any bytes before it (2026-03, sections: skipped).
 abbrev pub skipBy : Bool → Stage → Says

@@ -8,7 +8,7 @@ use tokens::same;
 ghost use mathlib.Core.Path.{_≡_};
 ghost use Rattle.sections.specs.Spelling.{printable, free, isEnd, isScopeKind, keywordOf};
 ghost use Rattle.sections.specs.declared.Place.the-variants.{ScaleNumber};
-ghost use Rattle.sections.specs.Sections.{stepMeant, goBy, sayBy, skipBy, numberBy, opens, sectionSays, codes, names, defines, isStart, isScaled, isScoped, isClosed, isBody};
+ghost use Rattle.sections.specs.Sections.{stepMeant, goBy, sayBy, skipBy, opens, sectionSays, codes, names, defines, isStart, isScaled, isScoped, isClosed, isBody};
 
 const FIRST_PRINTED: u8 = 0x21;
 

@@ -1,18 +1,18 @@
--- Laws of what stands at the start of a buffer: a refusal's line. Assumes nothing.
+-- Laws of what stands at the start of a buffer: any text, and a refusal's line. Assumes nothing.
 use Prim.Native.Nat.{ℕ, _+_, _≤_}
 use mathlib.Core.List.{List, [], _∷_, _++_, append-assoc}
 use mathlib.Core.Path.{_≡_, ap, sym, _∙_}
 use native.Mathlib.Omega.{arith}
 use native.Mathlib.Nat.{zero-add}
-use lib.ListN.{length, set, length-append}
-use lib.Seq.{sets, sets-eq, length-sets, length-take-le}
+use lib.ListN.{length, take, drop, set, length-append}
+use lib.Seq.{sets, sets-eq, length-sets, length-take-le, take-at}
 use Rattle.ground.proofs.Rows.{sets-append}
 use Rattle.texts.specs.Numbers.{decimalOf}
 use Rattle.texts.specs.Refusal.{refusalLine}
 use Rattle.texts.specs.Laying.{Starts, Lays}
 
 -- A text laid at the start of a buffer that has room for it.
-starts-laid : (text out out′ : List ℕ) (r : ℕ) → out′ ≡ sets out 0 text → r ≡ length text → r ≤ length out → Starts text out r out′
+pub starts-laid : (text out out′ : List ℕ) (r : ℕ) → out′ ≡ sets out 0 text → r ≡ length text → r ≤ length out → Starts text out r out′
 starts-laid text out out′ r e f h =
     let n : length out′ ≡ length out = ap length e ∙ length-sets out 0 text in
     let k : 0 + length text ≤ length out = omega arith in
@@ -21,6 +21,10 @@ starts-laid text out out′ r e f h =
       count = f;
       fits = (omega arith, sym (length-take-le r out′ (omega arith)));
     }
+
+-- What starts a buffer is what is taken of it.
+pub starts-text : (text out : List ℕ) (r : ℕ) (out′ : List ℕ) → Starts text out r out′ → take r out′ ≡ text
+starts-text text out r out′ x = rw (x .shown) (take-at text (drop r out) r (sym (x .count)))
 
 -- Number, blank, place and line feed, laid one after the other.
 pub refusal-starts : (k p s f : ℕ) (out ks ps : List ℕ) → Lays (decimalOf k) out 0 s ks → s ≤ 20

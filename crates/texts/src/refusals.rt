@@ -7,6 +7,9 @@ ghost use Rattle.texts.specs.Laying.{Starts};
 
 const SPACE: u8 = 0x20;
 
+// The longest line: two numbers of at most 20 digits, a space and a line feed.
+pub const LONGEST: usize = 42;
+
 // Writes a refusal's line over the start of `out`, and answers its length.
 pub fn put_refusal(number: u8, place: usize, out: &mut [u8]) -> usize
     requires { ⌜ 42 ≤ length (now out) ⌝ }

@@ -9,17 +9,13 @@ use lib.Dec.{eqb}
 use lib.ListN.{length, getD, take, drop, length-drop, drop-of-length-le}
 use lib.Seq.{drop-cons, drop-drop, getD-take, getD-drop, length-take-le}
 use borrow.Author.Tests.{eqb-true, eq-eqb, ne-eqb, not-true}
+use Rattle.ground.proofs.Tests.{and-split}
 use Rattle.lines.specs.Lines.{lineFeed, carriageReturn}
 use Rattle.tokens.specs.declared.Found.{Found}
 use Rattle.tokens.specs.declared.Found.the-variants.{Word, End}
-use Rattle.tokens.specs.declared.Stand.{Stand}
+use Rattle.tokens.specs.declared.Past.{Past}
 use Rattle.tokens.specs.Tokens.{Token, blank, goesOn, lineBy, putBy, tokensFrom, wordsOf, feedsIn, lastLine, sameWord}
 use Rattle.tokens.specs.Parts.{Passes, solid, EndsWord, FindsWord, Finds}
-
--- Two tests that hold together.
-both : (a b : Bool) → a && b ≡ true → (a ≡ true) × (b ≡ true)
-both true b e = (refl, e)
-both false b e = absurd (true≢false (sym e))
 
 -- A character that parts no tokens ends no line.
 no-feed : (c : ℕ) → blank c ≡ false → eqb c lineFeed ≡ false
@@ -88,7 +84,7 @@ same-equal [] [] e = refl
 same-equal [] (d ∷ ds) e = absurd (true≢false (sym e))
 same-equal (c ∷ cs) [] e = absurd (true≢false (sym e))
 same-equal (c ∷ cs) (d ∷ ds) e =
-    let t = both (eqb c d) (sameWord cs ds) e in
+    let t = and-split (eqb c d) (sameWord cs ds) e in
     let p : c ≡ d = eqb-true c d (t .0) in
     let q : cs ≡ ds = same-equal cs ds (t .1) in
     cc
@@ -146,7 +142,7 @@ solid-more : (xs : List ℕ) (k : ℕ) → k < length xs → blank (getD xs k 0)
 solid-more [] k h e s = absurd (omega arith)
 solid-more (c ∷ cs) zero h e s = rw e
 solid-more (c ∷ cs) (suc k) h e s =
-    let t = both (not (blank c)) (solid (take k cs)) s in
+    let t = and-split (not (blank c)) (solid (take k cs)) s in
     rw (t .0) (solid-more cs k (omega arith) e (t .1))
 
 pub word-turn : (text : List ℕ) (at i : ℕ) {r : Bool} → at ≤ i → i < length text → r ≡ blank (getD text i 0) → r ≡ false
@@ -164,18 +160,18 @@ word-first : (n m : ℕ) (xs : List ℕ) → 0 < m → m ≤ length xs → solid
 word-first n zero xs p h s g = absurd (omega arith)
 word-first n (suc m) [] p h s g = absurd (omega arith)
 word-first n (suc zero) (c ∷ cs) p h s g =
-    let b = not-true (blank c) (both (not (blank c)) true s .0) in
+    let b = not-true (blank c) (and-split (not (blank c)) true s .0) in
     rw (b, g, no-feed c b)
 word-first n (suc (suc m)) (c ∷ []) p h s g = absurd (omega arith)
 word-first n (suc (suc m)) (c ∷ d ∷ cs) p h s g =
-    let t = both (not (blank c)) (solid (take (suc m) (d ∷ cs))) s in
+    let t = and-split (not (blank c)) (solid (take (suc m) (d ∷ cs))) s in
     let b = not-true (blank c) (t .0) in
-    let u = both (not (blank d)) (solid (take m cs)) (t .1) in
+    let u = and-split (not (blank d)) (solid (take m cs)) (t .1) in
     let f = word-first n (suc m) (d ∷ cs) (omega arith) (omega arith) (t .1) g in
     rw (b, u .0, no-feed c b, f)
 
 -- Past blanks to where a token begins or the text ends, and past that token to where it ends.
-module _ (text : List ℕ) (at line : ℕ) (s : Stand) (p : Passes text at line s) where
+module _ (text : List ℕ) (at line : ℕ) (s : Past) (p : Passes text at line s) where
   pub finds-word : (to : ℕ) → s .at < length text → EndsWord text (s .at) to → FindsWord text at line (s .at) to (s .line)
   finds-word to h e =
       let apart : s .at ≡ to → ⊥ =

@@ -6,11 +6,11 @@ use mathlib.Core.Path.{_≡_}
 use lib.ListN.{length, take, drop}
 use Rattle.tokens.specs.declared.Found.{Found}
 use Rattle.tokens.specs.declared.Found.the-variants.{Word, End}
-use Rattle.tokens.specs.declared.Stand.{Stand}
+use Rattle.tokens.specs.declared.Past.{Past}
 use Rattle.tokens.specs.Tokens.{blank, goesOn, tokensFrom}
 
 -- A place past blanks: the same tokens are left from there, and a token begins there or the text ends.
-pub record Passes (text : List ℕ) (at line : ℕ) (r : Stand) : Type 0 where
+pub record Passes (text : List ℕ) (at line : ℕ) (r : Past) : Type 0 where
   pub from : at ≤ r .at
   pub inside : r .at ≤ length text
   pub small : r .line ≤ r .at

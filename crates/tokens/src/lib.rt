@@ -6,7 +6,7 @@ ghost use lib.ListN.{length};
 ghost use Rattle.tokens.specs.Tokens.{blank, sameWord, lastLine};
 ghost use Rattle.tokens.specs.Parts.{Passes, EndsWord, Finds};
 
-const SPACE: u8 = 0x20;
+pub const SPACE: u8 = 0x20;
 
 const TAB: u8 = 0x09;
 
@@ -17,7 +17,7 @@ pub enum Found {
 }
 
 // A place in a text, and the line that it is on.
-pub struct Stand {
+pub struct Past {
     pub at: usize,
     pub line: usize,
 }
@@ -42,7 +42,7 @@ pub fn is_blank(character: u8) -> bool
 }
 
 // Past the blanks from `at` on.
-fn pass_blanks(text: &[u8], at: usize, line: usize) -> Stand
+fn pass_blanks(text: &[u8], at: usize, line: usize) -> Past
     requires { ⌜ at ≤ length (now text) ⌝ }
     requires { ⌜ line ≤ at ⌝ }
     ensures { λ r. ⌜ Passes (now (text .entry)) at line r ⌝ }
@@ -52,14 +52,14 @@ fn pass_blanks(text: &[u8], at: usize, line: usize) -> Stand
     while i < text.len() {
         let character = text[i];
         if !is_blank(character) {
-            return Stand { at: i, line: on };
+            return Past { at: i, line: on };
         }
         if character == lines::LINE_FEED {
             on += 1;
         }
         i += 1;
     }
-    Stand { at: i, line: on }
+    Past { at: i, line: on }
 }
 
 // Where the token ends that stands at `at`.

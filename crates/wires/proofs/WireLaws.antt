@@ -12,10 +12,9 @@ use Rattle.ground.specs.Cases.{odd}
 use Rattle.ground.proofs.Tests.{and-split, not-zero}
 use Rattle.digits.specs.Digits.{within}
 use Rattle.tokens.specs.Tokens.{sameWord}
-use Rattle.tokens.proofs.TokenLaws.{equal-same}
 use Rattle.words.specs.Words.{decimalBase, figureBy, figureOf, allFigures, numeral, figuresValue}
 use Rattle.words.proofs.WordLaws.{within-low, digit-figure, digit-fails, digit-holds}
-use Rattle.wires.specs.Wires.{Var, sclName, sdaName, wpName, vccName, weightOf, bitBy, laid, marked, marksBy, marksOf, namedOf, hasWire}
+use Rattle.wires.specs.Wires.{Var, sclName, sdaName, wpName, vccName, weightOf, bitBy, laid, marked, marksBy, marksOf, hasWire}
 use Rattle.wires.specs.Times.{noTime, timeBy, timeOf}
 
 -- A bit is 0 or 1 if the value is.
@@ -44,18 +43,6 @@ marks-by false wire marks h = h
 pub marks-small : (vs : List Var) (code : List ℕ) → marksOf vs code ≤ 31
 marks-small [] code = omega arith
 marks-small (v ∷ vs) code = marks-by (sameWord code (v .code)) (weightOf (v .name)) (marksOf vs code) (marks-small vs code)
-
-pub named-small : (vs : List Var) → namedOf vs ≤ 15
-named-small [] = omega arith
-named-small (v ∷ vs) = laid-small 1 (weightOf (v .name)) (namedOf vs) (omega arith)
-
--- A wire counts for its own code, and for no other.
-module _ (v : Var) (vs : List Var) where
-  pub marks-own : marksOf (v ∷ vs) (v .code) ≡ marked (marksOf vs (v .code)) (weightOf (v .name))
-  marks-own = rw (equal-same (v .code))
-
-  pub marks-other : (code : List ℕ) → sameWord code (v .code) ≡ false → marksOf (v ∷ vs) code ≡ marksOf vs code
-  marks-other code e = rw e
 
 -- A name by the first of the four that it is.
 module _ (name : List ℕ) where

@@ -2,7 +2,7 @@
 use Prim.Native.Nat.{ℕ, _+_, _*_, _/_, _%_}
 use mathlib.Core.Bool.{Bool, true, false, _&&_}
 use mathlib.Core.List.{List, [], _∷_}
-use lib.Dec.{eqb, ltb}
+use lib.Dec.{ltb}
 use Rattle.ground.specs.Cases.{odd}
 use Rattle.codes.specs.Codes.{codesOf}
 use Rattle.tokens.specs.Tokens.{sameWord}
@@ -40,11 +40,11 @@ wireBy false false false false = 0
 unfoldable pub weightOf : List ℕ → ℕ
 weightOf name = wireBy (sameWord name sclName) (sameWord name sdaName) (sameWord name wpName) (sameWord name vccName)
 
--- The weights of all four wires together.
+-- The weights of all four wires together (2026-03, refusals 21 and 23).
 abbrev pub allWires : ℕ
 allWires = 15
 
--- A bit that is named takes the value, any other stays.
+-- A bit that is named takes the value, any other stays (2026-03, the last values).
 abbrev pub bitBy : Bool → ℕ → ℕ → ℕ
 bitBy true value old = value
 bitBy false value old = old % 2
@@ -57,7 +57,7 @@ laid value marks old =
     + 4 * bitBy (odd (marks / 4)) value (old / 4)
     + 8 * bitBy (odd (marks / 8)) value (old / 8)
 
--- What the marks of a code have if any wire was declared with it.
+-- What the marks of a code have if any wire was declared with it (2026-03, values: a code that was not declared).
 abbrev pub declared : ℕ
 declared = 16
 
@@ -65,7 +65,7 @@ declared = 16
 abbrev pub marked : ℕ → ℕ → ℕ
 marked marks wire = declared + laid 1 wire marks
 
--- A wire counts for its own code alone.
+-- A wire counts for its own code alone (2026-03, wires).
 abbrev pub marksBy : Bool → ℕ → ℕ → ℕ
 marksBy true wire marks = marked marks wire
 marksBy false wire marks = marks

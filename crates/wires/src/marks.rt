@@ -1,9 +1,7 @@
 // The wanted wires, and the marks of a code.
 use tokens::same;
 ghost use mathlib.Core.Path.{_≡_};
-ghost use Prim.Native.Nat.{_<_, _≤_};
-ghost use lib.Dec.{eqb};
-ghost use mathlib.Core.Bool.{Bool};
+ghost use Prim.Native.Nat.{_≤_};
 ghost use Rattle.wires.specs.Wires.{weightOf, laid, marked, hasWire};
 
 pub const ALL: u8 = 15;

@@ -4,6 +4,9 @@ ghost use mathlib.Core.Path.{_≡_};
 ghost use Prim.Native.Nat.{_+_, _*_, _%_, _≤_, min};
 ghost use Rattle.wires.specs.Times.{noTime, timeOf};
 
+// The character that a time line begins with.
+pub const HASH: u8 = b'#';
+
 // One more than the highest time: what is answered where there is no time.
 pub const NO_TIME: u64 = 4_294_967_296;
 
@@ -24,7 +27,7 @@ fn with_digit(so_far: u64, character: u8) -> u64
 // The time that digits give, or `NO_TIME` where they are none, hold another character or give more.
 pub fn time_of(digits: &[u8]) -> u64
     ensures { λ r. ⌜ r ≡ timeOf (now (digits .entry)) ⌝ }
-    ensures { λ r. ⌜ r ≤ 4294967296 ⌝ }
+    ensures { λ r. ⌜ r ≤ noTime ⌝ }
 {
     if digits.len() == 0 {
         return NO_TIME;

@@ -4,8 +4,11 @@ use Rattle.at_once.proofs.Reporting.{report-undone}
 use Rattle.at_once.proofs.by_size.Statement.{statement}
 use Rattle.at_once.proofs.by_size.Tie as tie
 
-on-small-requires : tie.Need-on-small-requires
-on-small-requires c κs = search needs
+slice-aggregate-try-once : tie.Need-slice-aggregate-try-once
+slice-aggregate-try-once c = search needs
+
+try-once-requires : tie.Need-try-once-requires
+try-once-requires c κs = search needs
 
 same-length : tie.Need-same-length
 same-length c = search needs
@@ -19,8 +22,11 @@ same-length-3 c = search needs
 returns : tie.Need-returns
 returns c = search needs
 
-on-large-requires : tie.Need-on-large-requires
-on-large-requires c κs = search needs
+slice-aggregate-try-once-2 : tie.Need-slice-aggregate-try-once-2
+slice-aggregate-try-once-2 c = search needs
+
+try-once-requires-2 : tie.Need-try-once-requires-2
+try-once-requires-2 c κs = search needs
 
 same-length-4 : tie.Need-same-length-4
 same-length-4 c = search needs
@@ -44,12 +50,14 @@ pub by-size-spec : {M : Type 1} → statement M
 by-size-spec =
     tie.close
     (tie.spec
-    on-small-requires
+    slice-aggregate-try-once
+    try-once-requires
     same-length
     same-length-2
     same-length-3
     returns
-    on-large-requires
+    slice-aggregate-try-once-2
+    try-once-requires-2
     same-length-4
     same-length-5
     same-length-6

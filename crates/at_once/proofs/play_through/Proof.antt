@@ -3,15 +3,15 @@ use mathlib.Core.Path.{refl, sym, _∙_}
 use native.Mathlib.Omega.{arith}
 use borrow.Author.Needs.{needs}
 use lib.ListN.{length}
+use Rattle.part.specs.Bench.{partOf}
 use Rattle.pieces.specs.Marks.{leftFrom}
-use Rattle.at_once.specs.Promises.{partWith}
 use Rattle.at_once.proofs.Passing.{Passing, passing-starts, passes-over, passes-faulty, times-held, bytes-held, answers-held, count-within, answers-within, next-held, left-fewer, answers-front, gather-asks, passing-on}
 use Rattle.at_once.proofs.play_through.Statement.{statement}
 use Rattle.at_once.proofs.play_through.Tie as tie
 
 abbrev Inv-loop : tie.InvT-loop
 Inv-loop dump table array₀ room₀ elapsed₀ levels₀ answers₀ track₀ state₀ next₀ found₀ array room elapsed levels answers track state next found =
-    Passing dump (partWith state₀ array₀) room₀ track state next found array room elapsed levels answers
+    Passing dump (partOf state₀ array₀) room₀ track state next found array room elapsed levels answers
 
 abbrev μ-loop : tie.MeasureT-loop
 μ-loop dump table array₀ room₀ elapsed₀ levels₀ answers₀ track₀ state₀ next₀ found₀ array room elapsed levels answers track state next found =

@@ -1,5 +1,6 @@
 -- `changes::value` meets its contract. Assumes nothing.
-use Rattle.changes.proofs.ChangeLaws.{value-given, value-unknown, tail-whole}
+use Rattle.ground.proofs.Rows.{tail-whole}
+use Rattle.changes.proofs.ChangeLaws.{value-given, value-unknown}
 use Rattle.changes.specs.Parts.{changeMeant}
 use borrow.Author.Needs.{needs}
 use Rattle.changes.proofs.value.Statement.{statement}

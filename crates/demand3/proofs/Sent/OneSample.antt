@@ -12,6 +12,7 @@ use Rattle.ground.specs.Numbers.{mostBits}
 use Rattle.ground.specs.Kind.{kindOf}
 use Rattle.page.specs.Page.{byteAt}
 use Rattle.ground.specs.declared.kinds.Kind.{Kind}
+use Rattle.part.specs.Bench.{partOf}
 use Rattle.part.specs.declared.state.Control.{Control}
 use Rattle.part.specs.declared.state.Frame.{Frame}
 use Rattle.part.specs.declared.state.Phase.{Phase}
@@ -28,7 +29,6 @@ use Rattle.bits.specs.Bits.{bitOf, fetch, ninthIn, ninthOf}
 use Rattle.ends.specs.Ends.{startedOf, stoppedOf, endedOf}
 use Rattle.levels.specs.Level.{sclOf, wpOf}
 use Rattle.sample.specs.Sample.{opensOf, resetOf, startOf, stopOf, leftOf, byteStep, heardBy, lineOf, signIn, wiredOf, sees, seenBy, seenOf, goesOnBy, stepOf}
-use Rattle.sample.specs.Run.{Part}
 use Rattle.demand3.specs.Sending.{Sent, nothing, sends, sendsArray, fetchedBy, nextSent, sentBy, sentOf, bitFrom}
 use Rattle.demand3.specs.Differ.{elsewhere, EqualBut}
 use Rattle.demand3.proofs.Sent.SentBits.{shifted, bit-out}
@@ -72,10 +72,6 @@ sign-counts true true false false f = refl
 sign-counts true false a b f = fall-counts (f .held) f
 sign-counts false true a b f = refl
 sign-counts false false a b f = refl
-
--- A part of a state and an array.
-abbrev pub partOf : State → List ℕ → Part
-partOf s xs = record { state = s; array = xs }
 
 -- A state that sends an array byte: the level that is out, and what is left of the byte.
 abbrev pub sendingState : State → Bool → ℕ → State

@@ -11,13 +11,14 @@ use borrow.Author.Tests.{eq-eqb, ne-eqb, not-true, not-false}
 use Rattle.ground.specs.Cases.{orZero}
 use Rattle.ground.specs.Kind.{kindOf}
 use Rattle.timers.specs.Timers.{writes}
+use Rattle.part.specs.Bench.{partOf}
 use Rattle.part.specs.declared.state.State.{State}
 use Rattle.levels.specs.Level.{pinBy, answerOf}
 use Rattle.sample.specs.Sample.{stepOf}
 use Rattle.demand3.specs.Sending.{Sent, nothing, sends, sentOf, bitFrom}
 use Rattle.demand3.specs.Differ.{reaches, elsewhere, EqualBut, SameButOut}
 use Rattle.demand3.proofs.Sent.TwoArrays.{silenced}
-use Rattle.demand3.proofs.Sent.OneSample.{partOf, sendingState, BothSend, Beside, equal, apart, step-equal, step-apart}
+use Rattle.demand3.proofs.Sent.OneSample.{sendingState, BothSend, Beside, equal, apart, step-equal, step-apart}
 
 -- Bits that are equal are one bit.
 same-one : (b c : Bool) → Bool·beq b c ≡ true → b ≡ c

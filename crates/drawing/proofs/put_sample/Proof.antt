@@ -2,7 +2,7 @@
 use Prim.Native.Nat.{_≤_}
 use native.Mathlib.Omega.{arith}
 use lib.ListN.{length, length-set}
-use Rattle.drawing.specs.Drawing.{hash}
+use Rattle.codes.specs.Codes.{hash}
 use Rattle.drawing.proofs.Starting.{sample-starts}
 use borrow.Author.Needs.{needs}
 use Rattle.drawing.proofs.put_sample.Statement.{statement}

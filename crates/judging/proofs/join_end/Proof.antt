@@ -1,15 +1,14 @@
 -- `judging::join_end` meets its contract. Assumes nothing.
 use mathlib.Core.Path.{ap, _∙_}
-use native.Mathlib.Omega.{arith}
 use Rattle.headings.specs.Parts.{joinedOf}
 use Rattle.judging.proofs.Kept.{first-small}
-use Rattle.judging.proofs.PlainLaws.{joined-zero}
+use Rattle.headings.proofs.FaultLaws.{join-none}
 use borrow.Author.Needs.{needs}
 use Rattle.judging.proofs.join_end.Statement.{statement}
 use Rattle.judging.proofs.join_end.Tie as tie
 
 returns : tie.Need-returns
-returns c = (joined-zero _ _ _ (c .if1 .taken), c .before .before .pre)
+returns c = (join-none _ _ _ (c .if1 .taken), c .before .before .pre)
 
 last-line-requires : tie.Need-last-line-requires
 last-line-requires c κs = search needs

@@ -1,5 +1,4 @@
 -- `judging::pass` meets its contract. Assumes nothing.
-use native.Mathlib.Omega.{arith}
 use Rattle.judging.proofs.PlainLaws.{kept-plain, passed-on}
 use borrow.Author.Needs.{needs}
 use Rattle.judging.proofs.pass.Statement.{statement}

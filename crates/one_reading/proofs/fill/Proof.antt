@@ -5,7 +5,7 @@ use mathlib.Core.Path.{refl}
 use native.Mathlib.Omega.{arith}
 use borrow.Author.Needs.{needs}
 use lib.ListN.{length}
-use Rattle.ground.proofs.Tests.{not-failed}
+use Rattle.ground.proofs.Tests.{not-failed, not-held}
 use Rattle.one_reading.proofs.Pieces.{Reading, reading-first, reading-repeat, reading-passed, reading-closed, reading-even, reads-full, reads-over, reads-wrong}
 use Rattle.one_reading.proofs.fill.Statement.{statement}
 use Rattle.one_reading.proofs.fill.Tie as tie
@@ -76,7 +76,7 @@ same-length-6 : tie.Need-same-length-6 Inv-loop μ-loop
 same-length-6 c = (reading-passed _ _ _ _ _ _ _ _ (c .before .before .before .before .before .before .before .before .before .before .before .before .before .before .before .before .loop .inv) _ _ _ (c .before .before .before .before .before .before .before .before .before .pass .ensures)) .filling .long
 
 returns-3 : tie.Need-returns-3 Inv-loop μ-loop
-returns-3 c = reads-wrong _ _ _ _ _ _ _ refl
+returns-3 c = reads-wrong _ _ _ _ _ _ _ refl (c .before .before .hear .ensures .faulty (not-held _ (c .if4 .taken)))
 
 add-next-2 : tie.Need-add-next-2 Inv-loop μ-loop
 add-next-2 c =

@@ -1,12 +1,11 @@
 -- `one_reading::first_time` meets its contract. The loop's invariant: no fault was met, and what is left gives the same samples.
 -- Assumes nothing.
 use Prim.Native.Nat.{_-_}
-use mathlib.Core.Path.{refl}
 use native.Mathlib.Omega.{arith}
 use borrow.Author.Needs.{needs}
 use lib.ListN.{length}
-use Rattle.tokens.proofs.TokenLaws.{found-word, word-length}
-use Rattle.one_reading.proofs.Beginning.{Beginning, beginning-first, beginning-moves, starts-first, starts-wrong}
+use Rattle.tokens.proofs.TokenLaws.{found-word, found-end, word-length}
+use Rattle.one_reading.proofs.Beginning.{Beginning, beginning-first, beginning-moves, starts-first, starts-short, starts-value, starts-broken}
 use Rattle.one_reading.proofs.first_time.Statement.{statement}
 use Rattle.one_reading.proofs.first_time.Tie as tie
 
@@ -32,7 +31,8 @@ wrong-requires : tie.Need-wrong-requires Inv-loop μ-loop
 wrong-requires c κs = search needs
 
 returns : tie.Need-returns Inv-loop μ-loop
-returns c = starts-wrong _ _ _ (c .wrong .ensures)
+returns c =
+    starts-short _ _ _ _ _ (c .before .before .before .before .loop .inv) (found-end _ _ _ _ (c .before .before .before .next .ensures) (c .before .enum-told .given .1)) _ (c .wrong .ensures)
 
 sub-change-of : tie.Need-sub-change-of Inv-loop μ-loop
 sub-change-of c =
@@ -72,7 +72,9 @@ wrong-requires-2 : tie.Need-wrong-requires-2 Inv-loop μ-loop
 wrong-requires-2 c κs = search needs
 
 returns-3 : tie.Need-returns-3 Inv-loop μ-loop
-returns-3 c = starts-wrong _ _ _ (c .wrong2 .ensures)
+returns-3 c =
+    starts-value _ _ _ _ _ (c .before .before .before .before .before .before .before .before .before .loop .inv) _ _ _ (found-word _ _ _ _ _ _ _ (c .before .before .before .before .before .before .before .before .next .ensures) (c .before .before .before .before .before .before .found .given .1)) _
+    (c .before .before .before .change-of .ensures) _ _ _ (c .before .enum-told2 .given .1)
 
 enum-known-change-2 : tie.Need-enum-known-change-2 Inv-loop μ-loop
 enum-known-change-2 c = search needs
@@ -94,7 +96,9 @@ wrong-requires-3 : tie.Need-wrong-requires-3 Inv-loop μ-loop
 wrong-requires-3 c κs = search needs
 
 returns-4 : tie.Need-returns-4 Inv-loop μ-loop
-returns-4 c = starts-wrong _ _ _ (c .wrong3 .ensures)
+returns-4 c =
+    starts-broken _ _ _ _ _ (c .before .before .before .before .before .before .before .before .before .loop .inv) _ _ _ (found-word _ _ _ _ _ _ _ (c .before .before .before .before .before .before .before .before .next .ensures) (c .before .before .before .before .before .before .found .given .1)) _
+    (c .before .before .before .change-of .ensures) _ (c .before .enum-told3 .given .1) (c .wrong3 .ensures)
 
 pub first-time-spec : {M : Type 1} → statement M
 first-time-spec =

@@ -4,8 +4,8 @@ use native.Mathlib.Omega.{arith}
 use native.Mathlib.Numerals.{add-one}
 use borrow.Author.Needs.{needs, scaled-fits}
 use lib.ListN.{getD, length-set}
+use Rattle.part.specs.Bench.{partOf}
 use Rattle.sample.specs.Run.{partStep}
-use Rattle.clocks.specs.Goes.{partOf}
 use Rattle.clocks.proofs.Going.{goes-none, goes-on, goes-then}
 use Rattle.dark.proofs.Darkness.{low-step, first-dark}
 use Rattle.plain.proofs.ahead.Statement.{statement}

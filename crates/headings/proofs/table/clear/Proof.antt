@@ -5,7 +5,7 @@ use mathlib.Core.Path.{_≡_, refl, _∙_}
 use native.Mathlib.Omega.{arith}
 use native.Mathlib.Numerals.{add-one, unary-clauses}
 use lib.ListN.{length, take, replicate, length-set}
-use Rattle.headings.proofs.TableLaws.{clear-turn, clear-done}
+use Rattle.ground.proofs.Rows.{clear-turn, clear-done}
 use borrow.Author.Needs.{needs}
 use Rattle.headings.proofs.table.clear.Statement.{statement}
 use Rattle.headings.proofs.table.clear.Tie as tie

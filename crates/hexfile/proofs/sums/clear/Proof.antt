@@ -6,7 +6,7 @@ use native.Mathlib.Omega.{arith}
 use native.Mathlib.Numerals.{add-one, unary-clauses}
 use borrow.Author.Needs.{needs}
 use lib.ListN.{length, take, replicate, length-set}
-use Rattle.hexfile.proofs.SumLaws.{clear-turn, clear-done}
+use Rattle.ground.proofs.Rows.{clear-turn, clear-done}
 use Rattle.hexfile.proofs.sums.clear.Statement.{statement}
 use Rattle.hexfile.proofs.sums.clear.Tie as tie
 

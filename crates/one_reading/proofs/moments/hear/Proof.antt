@@ -1,12 +1,11 @@
 -- `one_reading::moments::hear` meets its contract. The loop's invariant: no fault was heard, and what is left gives the same moments.
 -- Assumes nothing.
 use Prim.Native.Nat.{_-_}
-use mathlib.Core.Path.{_∙_}
 use native.Mathlib.Omega.{arith}
 use borrow.Author.Needs.{needs}
 use lib.ListN.{length}
 use Rattle.tokens.proofs.TokenLaws.{found-word, found-end, word-length}
-use Rattle.one_reading.proofs.Hearing.{Hearing, hearing-first, hearing-moves, hearing-value, closes-wrong, closes-end, closes-time, heard-small}
+use Rattle.one_reading.proofs.Hearing.{Hearing, hearing-first, hearing-moves, hearing-value, closes-unfit, closes-broken, closes-end, closes-time, heard-small}
 use Rattle.one_reading.proofs.moments.hear.Statement.{statement}
 use Rattle.one_reading.proofs.moments.hear.Tie as tie
 
@@ -81,7 +80,9 @@ wrong-requires : tie.Need-wrong-requires Inv-loop μ-loop
 wrong-requires c κs = search needs
 
 returns-3 : tie.Need-returns-3 Inv-loop μ-loop
-returns-3 c = closes-wrong _ _ _ _ (c .wrong .ensures)
+returns-3 c =
+    closes-unfit _ _ _ _ _ _ _ _ (c .before .before .before .before .before .before .before .before .before .before .before .before .loop .inv) _ _ _ (found-word _ _ _ _ _ _ _ (c .before .before .before .before .before .before .before .before .before .before .before .next .ensures) (c .before .before .before .before .before .before .before .before .before .found .given .1)) _
+    (c .before .before .before .before .before .before .change-of .ensures) _ _ _ _ (c .before .before .before .before .change2 .given .1) (c .before .before .at-value .ensures) (c .before .if1 .taken) (c .wrong .ensures)
 
 level-of-requires : tie.Need-level-of-requires Inv-loop μ-loop
 level-of-requires c κs = search needs
@@ -102,7 +103,9 @@ wrong-requires-2 : tie.Need-wrong-requires-2 Inv-loop μ-loop
 wrong-requires-2 c κs = search needs
 
 returns-4 : tie.Need-returns-4 Inv-loop μ-loop
-returns-4 c = closes-wrong _ _ _ _ (c .wrong2 .ensures)
+returns-4 c =
+    closes-broken _ _ _ _ _ _ _ _ (c .before .before .before .before .before .before .before .before .before .loop .inv) _ _ _ (found-word _ _ _ _ _ _ _ (c .before .before .before .before .before .before .before .before .next .ensures) (c .before .before .before .before .before .before .found .given .1)) _
+    (c .before .before .before .change-of .ensures) _ (c .before .enum-told2 .given .1) (c .wrong2 .ensures)
 
 loop-less : tie.Need-loop-less Inv-loop μ-loop
 loop-less c =

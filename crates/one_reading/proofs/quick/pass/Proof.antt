@@ -3,7 +3,7 @@
 use Prim.Native.Nat.{_-_}
 use mathlib.Core.Path.{refl}
 use native.Mathlib.Omega.{arith}
-use borrow.Author.Needs.{needs, scaled-fits}
+use borrow.Author.Needs.{needs}
 use lib.ListN.{length}
 use Rattle.glances.proofs.SeenPast.{seen-value}
 use Rattle.judging.proofs.PlainLaws.{passing-small, passing-inside, passing-further}
@@ -23,109 +23,37 @@ abbrev μ-loop : tie.MeasureT-loop
 loop-holds : tie.Need-loop-holds Inv-loop μ-loop
 loop-holds c = let p = c .before .before .before .before .pre in running-first _ _ _ _ _ (p .1 .0) (p .1 .1 .0) (p .1 .1 .1 .0) (p .1 .1 .1 .1 .1 .0) (p .1 .1 .1 .1 .1 .1 .0) (p .1 .1 .1 .1 .1 .1 .1)
 
-sub-if1 : tie.Need-sub-if1 Inv-loop μ-loop
-sub-if1 c = omega (arith, c .loop .inv .passing .kept .inside)
-
-passed-at-requires : tie.Need-passed-at-requires Inv-loop μ-loop
-passed-at-requires c κs = search needs
-
-same-length : tie.Need-same-length Inv-loop μ-loop
-same-length c = c .before .before .loop .inv .wide
-
-same-length-2 : tie.Need-same-length-2 Inv-loop μ-loop
-same-length-2 c = c .before .before .loop .inv .long
-
-returns : tie.Need-returns Inv-loop μ-loop
-returns c = passes-on _ _ _ _ _ _ _ _ _ _ _ _ _ _ _ (c .before .before .loop .inv) _ (c .passed-at .ensures)
+sub-loop : tie.Need-sub-loop Inv-loop μ-loop
+sub-loop c = omega (arith, c .loop .inv .passing .kept .inside)
 
 past-blank-requires : tie.Need-past-blank-requires Inv-loop μ-loop
-past-blank-requires c κs = (omega (arith, c .if1 .left), c .before .loop .inv .passing .kept .small)
+past-blank-requires c κs = (omega (arith, c .loop-test .left), c .before .loop .inv .passing .kept .small)
 
 shared-slice-read-first : tie.Need-shared-slice-read-first Inv-loop μ-loop
-shared-slice-read-first c = omega (arith, c .before .past-blank .ensures .near, c .before .before .if1 .left)
+shared-slice-read-first c = omega (arith, c .before .past-blank .ensures .near, c .before .before .loop-test .left)
 
 marks-at-requires : tie.Need-marks-at-requires Inv-loop μ-loop
-marks-at-requires c κs = (c .before .before .before .before .before .before .before .before .before .pre .0, (omega (arith, c .before .before .past-blank .ensures .near, c .before .before .before .if1 .left), c .if2 .taken))
-
-passed-at-requires-2 : tie.Need-passed-at-requires-2 Inv-loop μ-loop
-passed-at-requires-2 c κs = search needs
-
-same-length-3 : tie.Need-same-length-3 Inv-loop μ-loop
-same-length-3 c = c .before .before .before .before .before .before .before .loop .inv .wide
-
-same-length-4 : tie.Need-same-length-4 Inv-loop μ-loop
-same-length-4 c = c .before .before .before .before .before .before .before .loop .inv .long
-
-returns-2 : tie.Need-returns-2 Inv-loop μ-loop
-returns-2 c = passes-on _ _ _ _ _ _ _ _ _ _ _ _ _ _ _ (c .before .before .before .before .before .before .before .loop .inv) _ (c .passed-at2 .ensures)
+marks-at-requires c κs = (c .before .before .before .before .before .before .before .before .before .pre .0, (omega (arith, c .before .before .past-blank .ensures .near, c .before .before .before .loop-test .left), c .if1 .taken))
 
 add-at : tie.Need-add-at Inv-loop μ-loop
-add-at c = omega (arith, c .before .before .before .before .past-blank .ensures .near, c .before .before .before .before .before .if1 .left, c .before .before .before .before .before .before .before .before .before .before .before .good .0 .1)
+add-at c = omega (arith, c .before .before .before .before .past-blank .ensures .near, c .before .before .before .before .before .loop-test .left, c .before .before .before .before .before .before .before .before .before .before .before .good .0 .1)
 
 lay-requires : tie.Need-lay-requires Inv-loop μ-loop
 lay-requires c κs = search needs
 
 loop-less : tie.Need-loop-less Inv-loop μ-loop
-loop-less c = omega (arith, c .before .before .before .before .before .past-blank .ensures .from, c .before .before .before .before .before .past-blank .ensures .near, c .before .before .before .before .before .before .if1 .left)
+loop-less c = omega (arith, c .before .before .before .before .before .past-blank .ensures .from, c .before .before .before .before .before .past-blank .ensures .near, c .before .before .before .before .before .before .loop-test .left)
 
 loop-again : tie.Need-loop-again Inv-loop μ-loop
 loop-again c =
-    running-value _ _ _ _ _ _ _ _ _ _ _ _ _ _ _ (c .before .before .before .before .before .before .before .loop .inv) _ _ _ _ _ _ (seen-value _ _ _ _ (c .before .before .before .before .before .past-blank .ensures) _ (c .before .before .marks-at .ensures) (c .before .if3 .left))
-    (c .before .before .before .if2 .taken) (c .before .before .before .before .before .before .before .before .before .before .before .before .pre .1 .1 .1 .1 .0) (level-plain _ (c .before .before .before .if2 .taken)) (c .lay .ensures .0) (c .lay .ensures .1)
-
-passed-at-requires-3 : tie.Need-passed-at-requires-3 Inv-loop μ-loop
-passed-at-requires-3 c κs = search needs
-
-same-length-5 : tie.Need-same-length-5 Inv-loop μ-loop
-same-length-5 c = c .before .before .before .before .before .before .loop .inv .wide
-
-same-length-6 : tie.Need-same-length-6 Inv-loop μ-loop
-same-length-6 c = c .before .before .before .before .before .before .loop .inv .long
-
-returns-3 : tie.Need-returns-3 Inv-loop μ-loop
-returns-3 c = passes-on _ _ _ _ _ _ _ _ _ _ _ _ _ _ _ (c .before .before .before .before .before .before .loop .inv) _ (c .passed-at3 .ensures)
-
-passed-at-requires-4 : tie.Need-passed-at-requires-4 Inv-loop μ-loop
-passed-at-requires-4 c κs = search needs
-
-same-length-7 : tie.Need-same-length-7 Inv-loop μ-loop
-same-length-7 c = c .before .before .before .before .before .before .before .loop .inv .wide
-
-same-length-8 : tie.Need-same-length-8 Inv-loop μ-loop
-same-length-8 c = c .before .before .before .before .before .before .before .loop .inv .long
-
-returns-4 : tie.Need-returns-4 Inv-loop μ-loop
-returns-4 c = passes-on _ _ _ _ _ _ _ _ _ _ _ _ _ _ _ (c .before .before .before .before .before .before .before .loop .inv) _ (c .passed-at4 .ensures)
+    running-value _ _ _ _ _ _ _ _ _ _ _ _ _ _ _ (c .before .before .before .before .before .before .before .loop .inv) _ _ _ _ _ _ (seen-value _ _ _ _ (c .before .before .before .before .before .past-blank .ensures) _ (c .before .before .marks-at .ensures) (c .before .if2 .left))
+    (c .before .before .before .if1 .taken) (c .before .before .before .before .before .before .before .before .before .before .before .before .pre .1 .1 .1 .1 .0) (level-plain _ (c .before .before .before .if1 .taken)) (c .lay .ensures .0) (c .lay .ensures .1)
 
 time-at-requires : tie.Need-time-at-requires Inv-loop μ-loop
-time-at-requires c κs = (omega (arith, c .before .before .before .before .past-blank .ensures .near, c .before .before .before .before .before .if1 .left), c .before .if4 .left)
+time-at-requires c κs = (omega (arith, c .before .before .before .before .past-blank .ensures .near, c .before .before .before .before .before .loop-test .left), c .before .if3 .left)
 
-passed-at-requires-5 : tie.Need-passed-at-requires-5 Inv-loop μ-loop
-passed-at-requires-5 c κs = search needs
-
-same-length-9 : tie.Need-same-length-9 Inv-loop μ-loop
-same-length-9 c = c .before .before .before .before .before .before .before .before .before .loop .inv .wide
-
-same-length-10 : tie.Need-same-length-10 Inv-loop μ-loop
-same-length-10 c = c .before .before .before .before .before .before .before .before .before .loop .inv .long
-
-returns-5 : tie.Need-returns-5 Inv-loop μ-loop
-returns-5 c = passes-on _ _ _ _ _ _ _ _ _ _ _ _ _ _ _ (c .before .before .before .before .before .before .before .before .before .loop .inv) _ (c .passed-at5 .ensures)
-
-sub-if7 : tie.Need-sub-if7 Inv-loop μ-loop
-sub-if7 c = search needs
-
-passed-at-requires-6 : tie.Need-passed-at-requires-6 Inv-loop μ-loop
-passed-at-requires-6 c κs = search needs
-
-same-length-11 : tie.Need-same-length-11 Inv-loop μ-loop
-same-length-11 c = c .before .before .before .before .before .before .before .before .before .before .loop .inv .wide
-
-same-length-12 : tie.Need-same-length-12 Inv-loop μ-loop
-same-length-12 c = c .before .before .before .before .before .before .before .before .before .before .loop .inv .long
-
-returns-6 : tie.Need-returns-6 Inv-loop μ-loop
-returns-6 c = passes-on _ _ _ _ _ _ _ _ _ _ _ _ _ _ _ (c .before .before .before .before .before .before .before .before .before .before .loop .inv) _ (c .passed-at6 .ensures)
+sub-if6 : tie.Need-sub-if6 Inv-loop μ-loop
+sub-if6 c = search needs
 
 cast-elapsed : tie.Need-cast-elapsed Inv-loop μ-loop
 cast-elapsed c = search needs
@@ -144,7 +72,7 @@ add-i c = search needs
 
 add-at-2 : tie.Need-add-at-2 Inv-loop μ-loop
 add-at-2 c =
-    let f = passing-inside _ _ _ _ _ _ _ _ (c .before .before .before .before .before .before .before .before .before .before .loop .inv .passing) _ _ (c .before .before .before .before .before .before .before .before .past-blank .ensures) (c .before .before .before .time-at .ensures) (c .before .before .if6 .left) in
+    let f = passing-inside _ _ _ _ _ _ _ _ (c .before .before .before .before .before .before .before .before .before .before .loop .inv .passing) _ _ (c .before .before .before .before .before .before .before .before .past-blank .ensures) (c .before .before .before .time-at .ensures) (c .before .before .if5 .left) in
     omega (arith, f, c .before .before .before .before .before .before .before .before .before .before .before .before .before .before .before .good .0 .1)
 
 add-lines : tie.Need-add-lines Inv-loop μ-loop
@@ -160,11 +88,65 @@ sub-left c = search needs
 
 loop-less-2 : tie.Need-loop-less-2 Inv-loop μ-loop
 loop-less-2 c =
-    let f = passing-further _ _ _ _ _ _ _ _ (c .before .before .before .before .before .before .before .before .before .before .loop .inv .passing) _ _ (c .before .before .before .before .before .before .before .before .past-blank .ensures) (c .before .before .before .time-at .ensures) (c .before .before .if6 .left) in
-    omega (arith, f, c .before .before .before .before .before .before .before .before .before .if1 .left)
+    let f = passing-further _ _ _ _ _ _ _ _ (c .before .before .before .before .before .before .before .before .before .before .loop .inv .passing) _ _ (c .before .before .before .before .before .before .before .before .past-blank .ensures) (c .before .before .before .time-at .ensures) (c .before .before .if5 .left) in
+    omega (arith, f, c .before .before .before .before .before .before .before .before .before .loop-test .left)
 
 loop-again-2 : tie.Need-loop-again-2 Inv-loop μ-loop
-loop-again-2 c = running-time _ _ _ _ _ _ _ _ _ _ _ _ _ _ _ (c .before .before .before .before .before .before .before .before .before .before .loop .inv) _ _ (c .before .before .before .before .before .before .before .before .past-blank .ensures) (c .before .before .before .time-at .ensures) (c .before .before .if6 .left) (c .before .if7 .left) (c .before .before .before .before .if5 .left)
+loop-again-2 c = running-time _ _ _ _ _ _ _ _ _ _ _ _ _ _ _ (c .before .before .before .before .before .before .before .before .before .before .loop .inv) _ _ (c .before .before .before .before .before .before .before .before .past-blank .ensures) (c .before .before .before .time-at .ensures) (c .before .before .if5 .left) (c .before .if6 .left) (c .before .before .before .before .if4 .left)
+
+same-length : tie.Need-same-length Inv-loop μ-loop
+same-length c = c .before .loop .inv .wide
+
+same-length-2 : tie.Need-same-length-2 Inv-loop μ-loop
+same-length-2 c = c .before .loop .inv .long
+
+returns : tie.Need-returns Inv-loop μ-loop
+returns c = passes-on _ _ _ _ _ _ _ _ _ _ _ _ _ _ _ (c .before .loop .inv) _ refl
+
+same-length-3 : tie.Need-same-length-3 Inv-loop μ-loop
+same-length-3 c = c .before .before .before .before .before .before .loop .inv .wide
+
+same-length-4 : tie.Need-same-length-4 Inv-loop μ-loop
+same-length-4 c = c .before .before .before .before .before .before .loop .inv .long
+
+returns-2 : tie.Need-returns-2 Inv-loop μ-loop
+returns-2 c = passes-on _ _ _ _ _ _ _ _ _ _ _ _ _ _ _ (c .before .before .before .before .before .before .loop .inv) _ refl
+
+same-length-5 : tie.Need-same-length-5 Inv-loop μ-loop
+same-length-5 c = c .before .before .before .before .before .loop .inv .wide
+
+same-length-6 : tie.Need-same-length-6 Inv-loop μ-loop
+same-length-6 c = c .before .before .before .before .before .loop .inv .long
+
+returns-3 : tie.Need-returns-3 Inv-loop μ-loop
+returns-3 c = passes-on _ _ _ _ _ _ _ _ _ _ _ _ _ _ _ (c .before .before .before .before .before .loop .inv) _ refl
+
+same-length-7 : tie.Need-same-length-7 Inv-loop μ-loop
+same-length-7 c = c .before .before .before .before .before .before .loop .inv .wide
+
+same-length-8 : tie.Need-same-length-8 Inv-loop μ-loop
+same-length-8 c = c .before .before .before .before .before .before .loop .inv .long
+
+returns-4 : tie.Need-returns-4 Inv-loop μ-loop
+returns-4 c = passes-on _ _ _ _ _ _ _ _ _ _ _ _ _ _ _ (c .before .before .before .before .before .before .loop .inv) _ refl
+
+same-length-9 : tie.Need-same-length-9 Inv-loop μ-loop
+same-length-9 c = c .before .before .before .before .before .before .before .before .loop .inv .wide
+
+same-length-10 : tie.Need-same-length-10 Inv-loop μ-loop
+same-length-10 c = c .before .before .before .before .before .before .before .before .loop .inv .long
+
+returns-5 : tie.Need-returns-5 Inv-loop μ-loop
+returns-5 c = passes-on _ _ _ _ _ _ _ _ _ _ _ _ _ _ _ (c .before .before .before .before .before .before .before .before .loop .inv) _ refl
+
+same-length-11 : tie.Need-same-length-11 Inv-loop μ-loop
+same-length-11 c = c .before .before .before .before .before .before .before .before .before .loop .inv .wide
+
+same-length-12 : tie.Need-same-length-12 Inv-loop μ-loop
+same-length-12 c = c .before .before .before .before .before .before .before .before .before .loop .inv .long
+
+returns-6 : tie.Need-returns-6 Inv-loop μ-loop
+returns-6 c = passes-on _ _ _ _ _ _ _ _ _ _ _ _ _ _ _ (c .before .before .before .before .before .before .before .before .before .loop .inv) _ refl
 
 pub pass-spec : {M : Type 1} → statement M
 pass-spec =
@@ -173,40 +155,16 @@ pass-spec =
     Inv-loop
     μ-loop
     loop-holds
-    sub-if1
-    passed-at-requires
-    same-length
-    same-length-2
-    returns
+    sub-loop
     past-blank-requires
     shared-slice-read-first
     marks-at-requires
-    passed-at-requires-2
-    same-length-3
-    same-length-4
-    returns-2
     add-at
     lay-requires
     loop-less
     loop-again
-    passed-at-requires-3
-    same-length-5
-    same-length-6
-    returns-3
-    passed-at-requires-4
-    same-length-7
-    same-length-8
-    returns-4
     time-at-requires
-    passed-at-requires-5
-    same-length-9
-    same-length-10
-    returns-5
-    sub-if7
-    passed-at-requires-6
-    same-length-11
-    same-length-12
-    returns-6
+    sub-if6
     cast-elapsed
     mul-elapsed
     slice-write-elapsed
@@ -217,4 +175,22 @@ pass-spec =
     add-samples
     sub-left
     loop-less-2
-    loop-again-2)
+    loop-again-2
+    same-length
+    same-length-2
+    returns
+    same-length-3
+    same-length-4
+    returns-2
+    same-length-5
+    same-length-6
+    returns-3
+    same-length-7
+    same-length-8
+    returns-4
+    same-length-9
+    same-length-10
+    returns-5
+    same-length-11
+    same-length-12
+    returns-6)

@@ -5,9 +5,10 @@ use native.Mathlib.Omega.{arith}
 use native.Mathlib.Numerals.{add-one}
 use borrow.Author.Needs.{needs, scaled-fits}
 use lib.ListN.{length}
+use Rattle.part.specs.Bench.{partOf}
 use Rattle.sample.specs.Run.{Part}
 use Rattle.sample.proofs.Runs.{run-done, row-done, stepped}
-use Rattle.clocks.specs.Goes.{Goes, partOf}
+use Rattle.clocks.specs.Goes.{Goes}
 use Rattle.clocks.proofs.Going.{goes-none, goes-on, goes-then}
 use Rattle.twin.proofs.replays.run.Statement.{statement}
 use Rattle.twin.proofs.replays.run.Tie as tie
