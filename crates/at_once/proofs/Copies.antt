@@ -1,7 +1,7 @@
 -- Laws of what is copied: an array and its copy, and places brought from a room into a row. Assumes nothing.
 use Prim.Native.Nat.{ℕ, min, _≤_}
 use mathlib.Core.Bool.{Bool, true, false, not, true≢false}
-use mathlib.Core.List.{List, _++_, append-nil}
+use mathlib.Core.List.{List, _++_}
 use mathlib.Core.Path.{_≡_, refl, ap, sym, subst, _∙_}
 use native.Mathlib.Omega.{arith}
 use lib.Dec.{leb}
@@ -17,11 +17,8 @@ use Rattle.places.specs.Places.{placesIn, laidOver}
 use Rattle.one_reading.specs.declared.Track.{Track}
 use Rattle.at_once.specs.declared.Ended.{Ended}
 use Rattle.at_once.specs.Promises.{Ready, Whole, Passes, Tries}
-use Rattle.places.specs.Parts.{LaysOut}
-
--- All of a row copied over another of its length is that row.
-pub copied : (xs ys : List ℕ) → length ys ≡ length xs → take (length xs) xs ++ drop (length xs) ys ≡ xs
-copied xs ys h = rw (take-length xs, drop-of-length-le ys {i = length xs} (omega arith), append-nil xs)
+use Rattle.places.specs.Parts.{LaysOut, BringsOut}
+use Rattle.places.proofs.Laying.{copied}
 
 -- As many places as there are and as a row wants are those that are laid over it.
 wanted : (ps row : List ℕ) (n : ℕ) → n ≡ min (length ps) (length row) → take n ps ++ drop n row ≡ laidOver ps row
@@ -61,11 +58,11 @@ whole-out dump p room₀ found array room row row′ done w l o d =
     }
 
 -- A reading of which nothing came has changed nothing.
-pub tries-undone : (dump : List ℕ) (s : State) (array row : List ℕ) (r : Ended) (row′ : List ℕ) → r ≡ record { sound = false; found = 0 }
-    → row′ ≡ row → Tries dump s array row r array row′
-tries-undone dump s array row r row′ e b =
+pub tries-undone : (dump : List ℕ) (s : State) (array row : List ℕ) (r : Ended) (array′ row′ : List ℕ)
+    → r ≡ record { sound = false; found = 0 } → array′ ≡ array → row′ ≡ row → Tries dump s array row r array′ row′
+tries-undone dump s array row r array′ row′ e a b =
     let f : r .sound ≡ false = ap (λ (z : Ended). z .sound) e in
-    record { whole = λ h. absurd (true≢false (sym h ∙ f)); kept = λ h. refl; laid = λ h. b }
+    record { whole = λ h. absurd (true≢false (sym h ∙ f)); kept = λ h. a; laid = λ h. b }
 
 module _ (dump : List ℕ) (s : State) (array copy copy₁ : List ℕ) (l : length copy ≡ length array)
     (e : copy₁ ≡ take (length array) array ++ drop (length array) copy) where
@@ -78,17 +75,16 @@ module _ (dump : List ℕ) (s : State) (array copy copy₁ : List ℕ) (l : leng
 
   -- A reading on a copy that ended sound, with copy and places brought out.
   pub tries-done : (room₀ : List ℕ) (r : Ended) (copy₂ room : List ℕ) → Passes dump (partOf s copy₁) room₀ r copy₂ room
-      → not (r .sound) ≡ false → length copy₂ ≡ length copy₁ → length room ≡ length room₀
-      → (row row′ : List ℕ) (done : Bool) → LaysOut room (r .found) row row′ done → not done ≡ false
-      → (array′ : List ℕ) → array′ ≡ take (length copy₂) copy₂ ++ drop (length copy₂) array
+      → not (r .sound) ≡ false → length room ≡ length room₀
+      → (row : List ℕ) (done : Bool) (array′ row′ : List ℕ) → BringsOut room (r .found) copy₂ array row done array′ row′ → not done ≡ false
       → Tries dump s array row r array′ row′
-  tries-done room₀ r copy₂ room x h m n row row′ done o d array′ a =
+  tries-done room₀ r copy₂ room x h n row done array′ row′ o d =
       let sound = not-failed (r .sound) h in
       let w : Whole dump (partOf s array) room₀ (r .found) copy₂ room =
       subst (λ (z : List ℕ). Whole dump (partOf s z) room₀ (r .found) copy₂ room) same (x .whole sound)
       in
-      let k : array′ ≡ copy₂ = a ∙ copied copy₂ array (sym (m ∙ ap length same)) in
-      let v = whole-out dump (partOf s array) room₀ (r .found) copy₂ room row row′ done w n o (not-failed done d) in
+      let k : array′ ≡ copy₂ = o .brought (not-failed done d) in
+      let v = whole-out dump (partOf s array) room₀ (r .found) copy₂ room row row′ done w n (o .laid) (not-failed done d) in
       record {
         whole = λ z. subst (λ (q : List ℕ). Whole dump (partOf s array) row (r .found) q row′) (sym k) v;
         kept = λ z. absurd (true≢false (sym sound ∙ z));

@@ -130,10 +130,9 @@ fn on_copy(
     if !ended.sound {
         return undone();
     }
-    if !places::lay_out(room, ended.found, places) {
+    if !places::bring_out(room, ended.found, copy, array, places) {
         return undone();
     }
-    bytes::copy(copy, array);
     ended
 }
 

@@ -1,12 +1,14 @@
 -- Laws of laying the first places of a room over a row, one after the other. Assumes nothing.
 use Prim.Native.Nat.{ℕ, zero, suc, _+_, _≤_, _<_, min}
-use mathlib.Core.Bool.{true, false, true≢false}
-use mathlib.Core.List.{List, [], _∷_, _++_}
-use mathlib.Core.Path.{_≡_, refl, ap, sym, _∙_}
+use mathlib.Core.Bool.{Bool, true, false, not, true≢false}
+use mathlib.Core.List.{List, [], _∷_, _++_, append-nil}
+use mathlib.Core.Path.{_≡_, refl, ap, sym, subst, _∙_}
 use native.Mathlib.Numerals.{add-one}
 use native.Mathlib.Omega.{arith}
-use lib.ListN.{length, take, drop, getD, set, length-set}
-use Rattle.places.specs.Parts.{LaysOut}
+use lib.ListN.{length, take, drop, getD, set, length-set, drop-of-length-le}
+use lib.Seq.{take-length}
+use Rattle.ground.proofs.Tests.{not-held, not-failed}
+use Rattle.places.specs.Parts.{LaysOut, BringsOut}
 
 -- A laying that has come to an index.
 pub record Laying (room row₀ : List ℕ) (wanted : ℕ) (row : List ℕ) (i : ℕ) : Type 0 where
@@ -46,3 +48,27 @@ module _ (room row₀ : List ℕ) (found wanted : ℕ) (w : wanted ≡ min found
 pub lays-nothing : (room : List ℕ) (found : ℕ) (row : List ℕ) → LaysOut room found row row false
 lays-nothing room found row =
     record { held = λ d. absurd (true≢false (sym d)); said = λ d. absurd (true≢false (sym d)); kept = λ d. refl }
+
+-- All of a row copied over another of its length is that row.
+pub copied : (xs ys : List ℕ) → length ys ≡ length xs → take (length xs) xs ++ drop (length xs) ys ≡ xs
+copied xs ys h = rw (take-length xs, drop-of-length-le ys {i = length xs} (omega arith), append-nil xs)
+
+-- What is brought out or left.
+pub brings-out : (room : List ℕ) (found : ℕ) (copy array row : List ℕ) (done : Bool) (array′ row′ : List ℕ) → length copy ≡ length array
+    → LaysOut room found row row′ done → not done ≡ false → array′ ≡ take (length copy) copy ++ drop (length copy) array
+    → BringsOut room found copy array row true array′ row′
+brings-out room found copy array row done array′ row′ h l d e =
+    record {
+      laid = subst (LaysOut room found row row′) (not-failed done d) l;
+      brought = λ z. e ∙ copied copy array (sym h);
+      kept = λ z. absurd (true≢false z);
+    }
+
+pub brings-nothing : (room : List ℕ) (found : ℕ) (copy array row : List ℕ) (done : Bool) (row′ : List ℕ)
+    → LaysOut room found row row′ done → not done ≡ true → BringsOut room found copy array row false array row′
+brings-nothing room found copy array row done row′ l d =
+    record {
+      laid = subst (LaysOut room found row row′) (not-held done d) l;
+      brought = λ z. absurd (true≢false (sym z));
+      kept = λ z. refl;
+    }

@@ -22,3 +22,9 @@ pub record LaysOut (room : List ℕ) (found : ℕ) (row row′ : List ℕ) (done
   pub held : done ≡ true → min found (length row) ≤ length room
   pub said : done ≡ true → row′ ≡ take (min found (length row)) room ++ drop (min found (length row)) row
   pub kept : done ≡ false → row′ ≡ row
+
+-- The same with a copy of an array, which is brought back if the places are.
+pub record BringsOut (room : List ℕ) (found : ℕ) (copy array row : List ℕ) (done : Bool) (array′ row′ : List ℕ) : Type 0 where
+  pub laid : LaysOut room found row row′ done
+  pub brought : done ≡ true → array′ ≡ copy
+  pub kept : done ≡ false → array′ ≡ array

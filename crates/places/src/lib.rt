@@ -4,7 +4,7 @@ ghost use mathlib.Core.Path.{_≡_};
 ghost use Prim.Native.Nat.{_≤_, _+_};
 ghost use lib.ListN.{length};
 ghost use Rattle.places.specs.Places.{disagrees};
-ghost use Rattle.places.specs.Parts.{Gathers, LaysOut};
+ghost use Rattle.places.specs.Parts.{Gathers, LaysOut, BringsOut};
 
 // SCL high, SDA high in the dump, and the twin pulls it low.
 pub fn disagree(level: u8, answer: u8) -> bool
@@ -44,7 +44,7 @@ pub fn gather(
 }
 
 // Lays the first places of a room over a row, if the room holds all that the row wants.
-pub fn lay_out(room: &[u64], found: usize, places: &mut [u64]) -> bool
+fn lay_out(room: &[u64], found: usize, places: &mut [u64]) -> bool
     ensures { λ r. ⌜ LaysOut (now (room .entry)) found (now (places .entry)) (now (places .exit)) r ⌝ }
 {
     let wanted = cases::lesser(found, places.len());
@@ -56,5 +56,24 @@ pub fn lay_out(room: &[u64], found: usize, places: &mut [u64]) -> bool
         places[k] = room[k];
         k += 1;
     }
+    true
+}
+
+// Brings out what was found beside an array: a copy of it back, and the first places of a room into a row, if the room holds all that the
+// row wants.
+pub fn bring_out(
+    room: &[u64],
+    found: usize,
+    copy: &[u8],
+    array: &mut [u8],
+    places: &mut [u64],
+) -> bool
+    requires { ⌜ length (now copy) ≡ length (now array) ⌝ }
+    ensures { λ r. ⌜ BringsOut (now (room .entry)) found (now (copy .entry)) (now (array .entry)) (now (places .entry)) r (now (array .exit)) (now (places .exit)) ⌝ }
+{
+    if !lay_out(room, found, places) {
+        return false;
+    }
+    bytes::copy(copy, array);
     true
 }

@@ -19,7 +19,8 @@ slice-aggregate-play-through-3 : tie.Need-slice-aggregate-play-through-3
 slice-aggregate-play-through-3 c = search needs
 
 play-through-requires : tie.Need-play-through-requires
-play-through-requires c κs = (ready-copied _ _ _ _ _ (c .before .before .before .before .before .before .before .before .before .before .before .before .before .before .before .before .pre .1) (c .before .before .before .before .before .before .before .copy .ensures .1) _ _ (c .before .before .before .before .before .before .before .before .before .before .before .before .before .before .before .before .pre .0), (refl, (refl, refl)))
+play-through-requires c κs =
+    (ready-copied _ _ _ _ _ (c .before .before .before .before .before .before .before .before .before .before .before .before .before .before .before .before .pre .1) (c .before .before .before .before .before .before .before .copy .ensures .1) _ _ (c .before .before .before .before .before .before .before .before .before .before .before .before .before .before .before .before .pre .0), (refl, (refl, refl)))
 
 undone-requires : tie.Need-undone-requires
 undone-requires c κs = search needs
@@ -34,10 +35,10 @@ same-length-3 : tie.Need-same-length-3
 same-length-3 c = search needs
 
 returns : tie.Need-returns
-returns c = tries-undone _ _ _ _ _ _ (c .undone .ensures) refl
+returns c = tries-undone _ _ _ _ _ _ _ (c .undone .ensures) refl refl
 
-lay-out-requires : tie.Need-lay-out-requires
-lay-out-requires c κs = search needs
+bring-out-requires : tie.Need-bring-out-requires
+bring-out-requires c κs = search needs
 
 undone-requires-2 : tie.Need-undone-requires-2
 undone-requires-2 c κs = search needs
@@ -55,10 +56,10 @@ same-length-7 : tie.Need-same-length-7
 same-length-7 c = search needs
 
 returns-2 : tie.Need-returns-2
-returns-2 c = tries-undone _ _ _ _ _ _ (c .undone2 .ensures) (c .before .before .before .before .lay-out .ensures .kept (not-held _ (c .before .if2 .taken)))
-
-copy-requires-2 : tie.Need-copy-requires-2
-copy-requires-2 c κs = search needs
+returns-2 c =
+    let out = c .before .before .before .before .before .before .bring-out .ensures in
+    let left = not-held _ (c .before .if2 .taken) in
+    tries-undone _ _ _ _ _ _ _ (c .undone2 .ensures) (out .kept left) (out .laid .kept left)
 
 same-length-8 : tie.Need-same-length-8
 same-length-8 c = search needs
@@ -74,9 +75,9 @@ same-length-11 c = search needs
 
 returns-3 : tie.Need-returns-3
 returns-3 c =
-    let through = c .before .before .before .before .before .before .before .before .before .before .before .before .before .before .before .before .before .before .before .before .play-through in
-    tries-done _ _ _ _ _ (c .before .before .before .before .before .before .before .before .before .before .before .before .before .before .before .before .before .before .before .before .before .before .before .before .before .before .before .before .before .before .before .before .before .before .before .before .before .pre .1) (c .before .before .before .before .before .before .before .before .before .before .before .before .before .before .before .before .before .before .before .before .before .before .before .before .before .before .before .before .copy .ensures .1) _ _ _ _ (through .ensures) (c .before .before .before .before .before .before .before .before .before .before .before .if1 .left) (through .kept .1 .1 .1 .1 .0)
-    (through .kept .1 .1 .1 .1 .1 .0) _ _ _ (c .before .before .before .before .before .before .before .before .lay-out .ensures) (c .before .before .before .before .before .if2 .left) _ (c .before .before .copy4 .ensures .1)
+    let through = c .before .before .before .before .before .before .before .before .before .before .before .before .before .before .before .before .before .before .before .play-through in
+    tries-done _ _ _ _ _ (c .before .before .before .before .before .before .before .before .before .before .before .before .before .before .before .before .before .before .before .before .before .before .before .before .before .before .before .before .before .before .before .before .before .before .before .before .pre .1) (c .before .before .before .before .before .before .before .before .before .before .before .before .before .before .before .before .before .before .before .before .before .before .before .before .before .before .before .copy .ensures .1) _ _ _ _ (through .ensures) (c .before .before .before .before .before .before .before .before .before .before .if1 .left)
+    (through .kept .1 .1 .1 .1 .1 .0) _ _ _ _ (c .before .before .before .before .before .bring-out .ensures) (c .if2 .left)
 
 pub on-copy-spec : {M : Type 1} → statement M
 on-copy-spec =
@@ -92,14 +93,13 @@ on-copy-spec =
     same-length-2
     same-length-3
     returns
-    lay-out-requires
+    bring-out-requires
     undone-requires-2
     same-length-4
     same-length-5
     same-length-6
     same-length-7
     returns-2
-    copy-requires-2
     same-length-8
     same-length-9
     same-length-10

@@ -22,7 +22,7 @@ undone-requires : tie.Need-undone-requires
 undone-requires c κs = search needs
 
 returns : tie.Need-returns
-returns c = tries-undone _ _ _ _ _ _ (c .undone .ensures) refl
+returns c = tries-undone _ _ _ _ _ _ _ (c .undone .ensures) refl refl
 
 slice-aggregate-on-copy : tie.Need-slice-aggregate-on-copy
 slice-aggregate-on-copy c = search needs
