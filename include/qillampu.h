@@ -69,7 +69,7 @@ uint8_t qillampu_replay(uint16_t part, uint8_t select, uint8_t stored,
 
 /* Powers a part up and replays a value change dump, however long it is. Accepted, the count is the number of samples with
  * SCL high that the dump shows with SDA high while the part pulls it low. Nothing is told or changed before the whole dump
- * is judged. It takes some 162 KB of stack.
+ * is judged. It takes some 168 KB of stack.
  *   part      4323, 4325, 4283 or 4285
  *   select    the levels at S1 and S0, 0 to 3
  *   stored    the control byte that the part keeps without supply
