@@ -1,4 +1,6 @@
 // The slave byte and the two address bytes; and what bits, bytes and ends say with them: an acknowledge, a rest, a choice, a pending byte.
+#![tactic(auto)]
+
 ghost use Rattle.std.specs.Prelude.{◌≡◌};
 ghost use Rattle.part.specs.State.{with_chosen};
 ghost use Rattle.address.specs.Talk.{pends, none_pends, acknowledged, rested, matches, address_of};

@@ -1,5 +1,7 @@
 // The report of a dump in one reading: it is judged and replayed piece after piece on a copy of the array, and only if it was sound to its
 // end is the copy brought out. Whatever else comes is left to the report in two readings.
+#![tactic(auto)]
+
 ghost use Rattle.std.specs.Prelude.{◌≡◌, false, length};
 ghost use Rattle.part.specs.Bench.{part_of};
 ghost use Rattle.ranges.specs.Fit.{Fit};
@@ -31,7 +33,7 @@ const SMALL: usize = kinds::SMALL_SIZE as usize;
 const LARGE: usize = kinds::LARGE_SIZE as usize;
 
 // How a reading ended: whether the dump was sound to its end, and how many places disagree.
-#[derive(Drop)]
+#[derive(Clone, Copy)]
 struct Ended {
     sound: bool,
     found: usize,

@@ -1,4 +1,6 @@
 // Replays the cases on standard input and writes a reply for each to standard output.
+#![tactic(auto)]
+
 ghost use Rattle.std.specs.Prelude.{◌≤◌, length};
 
 use form::headers::Header;

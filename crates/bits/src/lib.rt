@@ -1,4 +1,6 @@
 // A bit below the eighth, and the ninth.
+#![tactic(auto)]
+
 ghost use Rattle.std.specs.Prelude.{◌≡◌};
 ghost use Rattle.ground.specs.Cases.{highest};
 ghost use Rattle.part.specs.State.{with_talk};

@@ -1,4 +1,6 @@
 // Power-up and the replay of one capture in one operation, with no state to hand over.
+#![tactic(auto)]
+
 ghost use Rattle.captures.specs.Once.{Captures};
 
 use ground::Reply;

@@ -1,4 +1,6 @@
 // Cells, one for each address: the byte that a file gives there, or `NOT_GIVEN`; and rows of bytes that a file need not give.
+#![tactic(auto)]
+
 ghost use Rattle.std.specs.Prelude.{◌≡◌, ◌≤◌, length, ltb};
 ghost use Rattle.cells.specs.Cells.{byte_by, settled_of, blank_of};
 ghost use Rattle.cells.specs.Promises.{GivesTo};

@@ -1,4 +1,6 @@
 // A token behind the definitions of a dump: a time, a value, or what else may stand there.
+#![tactic(auto)]
+
 ghost use Rattle.std.specs.Prelude.{◌≡◌, ◌<◌, length, get_or, drop};
 ghost use Rattle.wires.specs.Wires.{marks_of};
 ghost use Rattle.wires.specs.Times.{time_of};
@@ -12,7 +14,7 @@ use sections::{Place, Stage, Step};
 use wires::{times, values};
 
 // Outside every section, among dumped values, or in a comment.
-#[derive(Drop)]
+#[derive(Clone, Copy)]
 pub enum Mode {
     Between,
     Dumped,
@@ -20,7 +22,7 @@ pub enum Mode {
 }
 
 // What a token says.
-#[derive(Drop)]
+#[derive(Clone, Copy)]
 pub enum Change {
     Time(u64),
     Value { character: u8, marks: u8 },

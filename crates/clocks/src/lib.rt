@@ -1,5 +1,7 @@
 // The clocks of a transfer in one go: quiet samples, rises and falls below the eighth bit, on numbers and bools. What two loops
 // above share stands here too: the time in which no timer ends, the answer byte, and what going ahead means.
+#![tactic(auto)]
+
 pub mod rooms;
 pub mod turns;
 
@@ -9,7 +11,7 @@ ghost use Rattle.clocks.specs.Goes.{moved_of};
 use part::state::{Device, Load, State, Timers, Wire};
 
 // A state, and the sample that comes next.
-#[derive(Drop)]
+#[derive(Clone, Copy)]
 pub struct Stand {
     pub state: State,
     pub at: usize,

@@ -11,7 +11,7 @@ use part::state::{Timers, Watchdog};
 const LONG: u32 = 4_000_000_000;
 
 // The write time and the watchdog as they stand where `all` begins, a time in which neither ends.
-#[derive(Drop)]
+#[derive(Clone, Copy)]
 pub struct Times {
     pub write: u32,
     pub left: u32,

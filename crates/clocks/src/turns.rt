@@ -14,7 +14,7 @@ const BEFORE_LAST: u8 = 7;
 
 // What a clock changes, side by side: the time in which no timer ends, the lines, the frame, and the talk
 // but for its phase.
-#[derive(Drop)]
+#[derive(Clone, Copy)]
 pub struct Clocks {
     pub room: u32,
     pub scl: bool,
@@ -30,7 +30,7 @@ pub struct Clocks {
 
 // What a sample is to the loops: a plain clock, an eighth or a ninth fall, a start, a stop, or one that
 // they leave alone.
-#[derive(Drop)]
+#[derive(Clone, Copy)]
 pub enum Turn {
     Plain,
     Eighth,
@@ -41,7 +41,7 @@ pub enum Turn {
 }
 
 // The clocks where a loop stopped, and the sample before which it did.
-#[derive(Drop)]
+#[derive(Clone, Copy)]
 pub struct Ran {
     pub now: Clocks,
     pub at: usize,

@@ -1,4 +1,6 @@
 // The control register: how it reads, and what a register byte orders at a stop.
+#![tactic(auto)]
+
 ghost use Rattle.std.specs.Prelude.{◌≡◌, true, false};
 ghost use Rattle.control.specs.Register.{plain_of, reads_of, low_order, order_of, carried_out, takes_time};
 
@@ -6,7 +8,7 @@ use ground::cases;
 use part::state::Control;
 
 // What a stop after one register byte does.
-#[derive(Drop)]
+#[derive(Clone, Copy)]
 pub enum Order {
     SetWel,
     ClearWel,

@@ -1,4 +1,6 @@
 // Samples with VCC low, reset going on.
+#![tactic(auto)]
+
 ghost use Rattle.std.specs.Prelude.{◌≡◌, ◌≤◌, length};
 ghost use Rattle.part.specs.Bench.{part_of};
 ghost use Rattle.clocks.specs.Goes.{Goes};
@@ -10,7 +12,7 @@ use levels::answers;
 use part::state::{Lines, State};
 
 // What such a sample changes, after a first one: the write time and the lines.
-#[derive(Drop)]
+#[derive(Clone, Copy)]
 pub struct Dim {
     pub write: u32,
     pub lines: Lines,

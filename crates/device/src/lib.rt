@@ -1,4 +1,6 @@
 // A whole byte, at its eighth fall.
+#![tactic(auto)]
+
 ghost use Rattle.std.specs.Prelude.{◌≡◌};
 ghost use Rattle.part.specs.State.{with_talk};
 ghost use Rattle.address.specs.Talk.{rested};

@@ -1,4 +1,6 @@
 // Hexadecimal digits, upper case.
+#![tactic(auto)]
+
 ghost use Rattle.std.specs.Prelude.{◌≡◌, ◌<◌, ◌/◌, ◌%◌, ltb};
 ghost use Rattle.digits.specs.Digits.{within, is_digit, glyph_of};
 ghost use Rattle.digits.specs.Values.{shift_by, value_of};

@@ -1,4 +1,6 @@
 // Where a dump and the twin disagree: each sample with SCL high that the dump shows with SDA high while the twin pulls it low.
+#![tactic(auto)]
+
 ghost use Rattle.std.specs.Prelude.{◌≡◌, ◌≤◌, length};
 ghost use Rattle.ground.specs.Numbers.{most_samples};
 ghost use Rattle.disagreements.specs.Promises.{Opens, Plays, PlaysOn, Reports, Stands};
@@ -11,7 +13,7 @@ use pieces::Mark;
 pub const PIECE: usize = 4096;
 
 // Where a dump is left: the part, the mark of the next sample, and its place.
-#[derive(Drop)]
+#[derive(Clone, Copy)]
 pub struct Stand {
     pub state: State,
     pub mark: Mark,
@@ -19,14 +21,14 @@ pub struct Stand {
 }
 
 // The reply to a dump, and where its replay begins.
-#[derive(Drop)]
+#[derive(Clone, Copy)]
 pub struct Opened {
     pub reply: Reply,
     pub stand: Stand,
 }
 
 // How many samples were replayed, and where the dump is left.
-#[derive(Drop)]
+#[derive(Clone, Copy)]
 pub struct Played {
     pub count: usize,
     pub stand: Stand,

@@ -1,6 +1,8 @@
 // The twin, its dumps and the images for other languages, over numbers and slices; include/qillampu.h declares the four
 // functions for C. None has a `requires`, and each says for every input its answer, the reply row and what each
 // lent row holds at the end.
+#![tactic(auto)]
+
 ghost use Rattle.telling.specs.Told.{ReadsThrough, WritesThrough};
 ghost use Rattle.door.specs.Promises.{ReplaysOnce, ReplaysDump};
 

@@ -1,5 +1,7 @@
 // A capture, with the part's answers to it, as a value change dump (IEEE 1364): what the dump begins with, and the lines of one
 // sample after the other.
+#![tactic(auto)]
+
 mod values;
 mod wires;
 
@@ -16,7 +18,7 @@ const HASH: u8 = 0x23;
 
 // What is drawn so far: whether there was a sample, and of the last one its time, the part's own SDA level after it, and the levels
 // of the eight wires.
-#[derive(Drop)]
+#[derive(Clone, Copy)]
 pub struct Drawn {
     pub begun: bool,
     pub time: u64,
@@ -25,7 +27,7 @@ pub struct Drawn {
 }
 
 // What is drawn with one sample more, and the length of its text.
-#[derive(Drop)]
+#[derive(Clone, Copy)]
 pub struct Put {
     pub drawn: Drawn,
     pub length: usize,

@@ -1,4 +1,6 @@
 // A start, a stop, and reset.
+#![tactic(auto)]
+
 ghost use Rattle.std.specs.Prelude.{◌≡◌};
 ghost use Rattle.ends.specs.Ends.{dropped, started_of, keeps_for_stop, cuts_off, control_left, stopped_of, ended_of};
 

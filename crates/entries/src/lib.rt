@@ -1,5 +1,7 @@
 // What a sample can say, as entries: each a number with the place of its sample, laid over a row as
 // far as it has room.
+#![tactic(auto)]
+
 pub mod tags;
 
 ghost use Rattle.std.specs.Prelude.{◌≡◌, ◌<◌};
@@ -15,7 +17,7 @@ use withheld::Why;
 // acknowledged, if a part that hears it does not; the ninth bit as it stood on the line with the
 // part's own level there (the part acknowledges where its own is low); and where a write cycle or
 // reset begins or ends.
-#[derive(Drop)]
+#[derive(Clone, Copy)]
 pub enum Entry {
     Start(u8),
     Stop {
@@ -36,7 +38,7 @@ pub enum Entry {
 }
 
 // An entry, or nothing to say.
-#[derive(Drop)]
+#[derive(Clone, Copy)]
 pub enum Told {
     Nothing,
     One(Entry),

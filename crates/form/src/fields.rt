@@ -8,7 +8,7 @@ use part::state::{Chip, Control, Device, Frame, Place, State, Timers, Watchdog, 
 pub const KEEP: u32 = 0xFFFF_FFFF;
 
 // The eight words that are put into a state that is powered up.
-#[derive(Drop)]
+#[derive(Clone, Copy)]
 pub struct Preset {
     pub counter: u32,
     pub bits: u32,

@@ -7,7 +7,7 @@ use part::state::{Phase, State, Talk};
 
 // The words that count, in their order. 16 and 17 are kept for editions, 18 to 22 for counts, and the
 // five after these say nothing.
-#[derive(Drop)]
+#[derive(Clone, Copy)]
 pub struct Further {
     pub phase: u32,
     pub flags: u32,

@@ -15,7 +15,7 @@ const FIRST: usize = 16;
 
 // What a case asks for: the power-up, how often its rows are replayed, whether it is a long one, how
 // long its rows are, and the words that are put into the powered-up state.
-#[derive(Drop)]
+#[derive(Clone, Copy)]
 pub struct Header {
     pub part: u32,
     pub select: u32,

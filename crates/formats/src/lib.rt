@@ -1,4 +1,6 @@
 // The forms of record that images are read and written in: each function asks once which it is.
+#![tactic(auto)]
+
 ghost use Rattle.std.specs.Prelude.{◌≡◌, ◌+◌, ◌≤◌, ◌<◌, length, take};
 ghost use Rattle.std.proofs.lemmas.List.Edits.{sets};
 ghost use Rattle.forms.specs.Parts.{HearsLine};
@@ -7,7 +9,7 @@ ghost use Rattle.formats.specs.Formats.{form_of};
 
 use forms::Says;
 
-#[derive(Drop)]
+#[derive(Clone, Copy)]
 pub enum Format {
     Intel,
 }

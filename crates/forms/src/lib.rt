@@ -1,11 +1,13 @@
 // What every form of record shares: what a line says to the cells read so far, and how its data are placed in them.
+#![tactic(auto)]
+
 ghost use Rattle.forms.specs.Parts.{Places};
 
 // Bytes in a row, and so in each record that the writer makes.
 pub const ROW: usize = 16;
 
 // A sound line gives data or ends the image; any other is refused with a number.
-#[derive(Drop)]
+#[derive(Clone, Copy)]
 pub enum Says {
     Gives,
     Ends,

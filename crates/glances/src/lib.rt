@@ -1,5 +1,7 @@
 // The tokens that nearly all of a dump is made of, seen at a glance: behind at most one blank a value of 0 or 1 for a code of one
 // character, or a time. What is not so simple is left to those who ask token after token.
+#![tactic(auto)]
+
 ghost use Rattle.std.specs.Prelude.{◌≡◌, ◌+◌, ◌/◌, ◌<◌, ◌≤◌, length, slice_index};
 ghost use Rattle.tokens.specs.Tokens.{blank};
 ghost use Rattle.codes.specs.Codes.{hash};
@@ -12,7 +14,7 @@ use tokens::{Past, is_blank};
 use wires::times;
 
 // A time that is seen, and its token's length; length 0 and time 0 where none is.
-#[derive(Drop)]
+#[derive(Clone, Copy)]
 pub struct Seen {
     pub time: u64,
     pub length: usize,

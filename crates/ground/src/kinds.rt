@@ -16,7 +16,7 @@ pub const SMALL_SIZE: u16 = 4096;
 pub const LARGE_SIZE: u16 = 16384;
 
 // The array's size in bytes, the RESET pin's active level, and whether block codes 1 and 2 lock upper blocks. A size of 0 is no part.
-#[derive(Drop)]
+#[derive(Clone, Copy)]
 pub struct Kind {
     pub size: u16,
     pub high: bool,
@@ -62,7 +62,7 @@ pub fn kind_of(part: u16) -> Kind
 }
 
 // The size of a part's array.
-#[derive(Drop)]
+#[derive(Clone, Copy)]
 pub enum Size {
     Bytes(u32),
     Unknown,

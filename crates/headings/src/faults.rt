@@ -13,7 +13,7 @@ pub const TIME: u8 = 22;
 pub const VALUE: u8 = 23;
 
 // A fault with its line, counted from 0; number 0 is none.
-#[derive(Drop)]
+#[derive(Clone, Copy)]
 pub struct Fault {
     pub number: u8,
     pub line: usize,

@@ -1,4 +1,6 @@
 // The definitions of a dump: the marks of every code, and the faults that stand there.
+#![tactic(auto)]
+
 pub mod faults;
 pub mod search;
 pub mod table;
@@ -15,7 +17,7 @@ use wires::marks;
 pub const CODES: usize = 256;
 
 // Where the definitions are left: the place in the dump with its line, how far they came, and the first fault.
-#[derive(Drop)]
+#[derive(Clone, Copy)]
 pub struct Heading {
     pub at: usize,
     pub line: usize,

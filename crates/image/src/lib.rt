@@ -1,5 +1,7 @@
 // Memory images in Intel's hexadecimal object format. The operations are `read_image` and `write_image`; each is the same operation
 // in any form of record, at Intel's.
+#![tactic(auto)]
+
 ghost use Rattle.std.specs.Prelude.{◌≤◌, length, replicate};
 ghost use Rattle.ground.specs.Numbers.{large_size};
 ghost use Rattle.cells.specs.Cells.{not_given};

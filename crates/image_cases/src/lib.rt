@@ -1,1 +1,2 @@
 // No function: the bench cases of image files. specs/ says it, proofs/ shows it.
+#![tactic(auto)]

@@ -1,4 +1,6 @@
 // Intel's hexadecimal object format: what a line says to the cells read so far.
+#![tactic(auto)]
+
 ghost use Rattle.std.specs.Prelude.{◌≡◌, ◌+◌, ◌*◌, ◌≤◌, true, eqb, length, get_or, take};
 ghost use Rattle.hexfile.specs.Pairs.{sums_to_zero};
 ghost use Rattle.intel.specs.Intel.{intel, characters_in, type_by};

@@ -1,4 +1,6 @@
 // Intel's hexadecimal object format: the record of a row and the end record, written as lines.
+#![tactic(auto)]
+
 ghost use Rattle.std.specs.Prelude.{◌≡◌, [], ◌+◌, ◌-◌, ◌%◌, ◌≤◌, ◌<◌, length};
 ghost use Rattle.std.proofs.lemmas.List.Edits.{sets};
 ghost use Rattle.forms.specs.Writing.{closed};

@@ -1,1 +1,2 @@
 // No function: Intel's form keeps the laws of the round trip. proofs/ shows it.
+#![tactic(auto)]

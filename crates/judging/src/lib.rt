@@ -1,4 +1,6 @@
 // Judges a dump: how many samples it has, or its first fault.
+#![tactic(auto)]
+
 mod gaps;
 
 ghost use Rattle.std.specs.Prelude.{◌≡◌, true, [], ◌≤◌, length};
@@ -21,7 +23,7 @@ use tokens::Found;
 use wires::{marks, times};
 
 // The time lines and values so far: how many time lines, the latest time, the wires that have a value, and the samples.
-#[derive(Drop)]
+#[derive(Clone, Copy)]
 pub struct Heard {
     pub lines: usize,
     pub time: u64,
@@ -38,7 +40,7 @@ pub const UNHEARD: Heard = Heard {
 };
 
 // Where plain tokens end: the place, its line, and what was heard up to there.
-#[derive(Drop)]
+#[derive(Clone, Copy)]
 struct Plain {
     at: usize,
     line: usize,

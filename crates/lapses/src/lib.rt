@@ -1,4 +1,6 @@
 // The faults of time lines, of values and of a dump's end.
+#![tactic(auto)]
+
 ghost use Rattle.std.specs.Prelude.{◌≡◌, false, not};
 ghost use Rattle.wires.specs.Values.{unfit};
 ghost use Rattle.dumps.specs.Reading.{is_between};

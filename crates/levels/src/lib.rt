@@ -1,2 +1,4 @@
 // Level bytes in, answer bytes out.
+#![tactic(auto)]
+
 pub mod answers;

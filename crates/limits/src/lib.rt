@@ -1,4 +1,6 @@
 // Refusals 9 and 10: the earliest sample whose time or levels are out of bounds.
+#![tactic(auto)]
+
 ghost use Rattle.std.specs.Prelude.{◌≡◌, ◌≤◌, length};
 ghost use Rattle.ground.specs.Verdict.{accepted, meant};
 ghost use Rattle.limits.specs.Samples.{samples_of};

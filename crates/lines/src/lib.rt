@@ -1,4 +1,6 @@
 // A text, line by line.
+#![tactic(auto)]
+
 ghost use Rattle.std.specs.Prelude.{◌≡◌, ◌+◌, ◌-◌, ◌≤◌, length, take, drop};
 ghost use Rattle.lines.specs.Lines.{first_line, lines_of, step_meant, line_step_of, trimmed};
 ghost use Rattle.lines.specs.Parts.{feed_in, Skips};
@@ -8,7 +10,7 @@ pub const LINE_FEED: u8 = 10;
 pub const CARRIAGE_RETURN: u8 = 13;
 
 // A line, by where its characters end without and with its carriage return; or that none is left.
-#[derive(Drop)]
+#[derive(Clone, Copy)]
 pub enum Line {
     At { trimmed: usize, feed: usize },
     End,

@@ -1,4 +1,6 @@
 // The lines of a report: a place to a line.
+#![tactic(auto)]
+
 ghost use Rattle.std.specs.Prelude.{◌≡◌, ◌≤◌, ◌+◌, ◌*◌, length};
 ghost use Rattle.texts.specs.Laying.{Starts};
 ghost use Rattle.places.specs.Places.{places_from};

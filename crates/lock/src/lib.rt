@@ -1,4 +1,6 @@
 // Block lock: which pages a control byte locks.
+#![tactic(auto)]
+
 ghost use Rattle.std.specs.Prelude.{◌≡◌};
 ghost use Rattle.lock.specs.Lock.{block_code, upper_from, extent_of, locked_of};
 
@@ -11,7 +13,7 @@ const FROM_CODE_ONE: u16 = 0x3000;
 const FROM_CODE_TWO: u16 = 0x2000;
 
 // Pages from `from` up to but not including `to`.
-#[derive(Drop)]
+#[derive(Clone, Copy)]
 pub struct Extent {
     pub from: u16,
     pub to: u16,

@@ -1,1 +1,2 @@
 // No function: the bench cases of the block lock. specs/ says it, proofs/ shows it.
+#![tactic(auto)]

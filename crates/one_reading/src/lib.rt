@@ -1,5 +1,7 @@
 // A dump judged and filled in one reading, as long as nothing is wrong with it: then its samples are there piece after piece before all of
 // it is judged, and where something is wrong that is found in the end. What is wrong is left to those who judge a dump whole.
+#![tactic(auto)]
+
 mod moments;
 mod quick;
 
@@ -22,7 +24,7 @@ use tokens::Found;
 use wires::marks;
 
 // Where a dump is left without a fault: the mark of the next sample, its line, and what was heard up to there.
-#[derive(Drop)]
+#[derive(Clone, Copy)]
 pub struct Track {
     pub mark: Mark,
     pub line: usize,
@@ -30,14 +32,14 @@ pub struct Track {
 }
 
 // Where the samples begin, if nothing is wrong so far.
-#[derive(Drop)]
+#[derive(Clone, Copy)]
 pub struct Started {
     pub sound: bool,
     pub track: Track,
 }
 
 // How many samples were filled in, whether nothing is wrong so far, and where the dump is left.
-#[derive(Drop)]
+#[derive(Clone, Copy)]
 pub struct Went {
     pub count: usize,
     pub sound: bool,

@@ -14,7 +14,7 @@ use wires::{marks, values};
 
 // The end of a moment: whether nothing is wrong up to there; its levels, with the time line behind it, if there is one; the line; and what
 // was heard.
-#[derive(Drop)]
+#[derive(Clone, Copy)]
 pub struct Closed {
     pub sound: bool,
     pub moved: Moved,

@@ -13,7 +13,7 @@ use pieces::Mark;
 use wires::{marks, times};
 
 // How many samples are filled in, and where plain tokens end.
-#[derive(Drop)]
+#[derive(Clone, Copy)]
 pub struct Passed {
     pub count: usize,
     pub track: Track,

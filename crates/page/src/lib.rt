@@ -1,4 +1,6 @@
 // The page load, the places it fills, and its way into the array.
+#![tactic(auto)]
+
 ghost use Rattle.std.specs.Prelude.{◌≡◌, cond, get_or, set};
 ghost use Rattle.page.specs.Page.{place_of, next_in_page, next_in_array, byte_at, empty_load, filled_of, lay_of, store_of, any_marked};
 

@@ -4,15 +4,15 @@
 pub const PAGE: u16 = 64;
 
 // A 16-bit address as the bus sends it: FFFFh chooses the control register.
-#[derive(Drop)]
+#[derive(Clone, Copy)]
 pub struct BusAddress(pub u16);
 
 // A place in the array: the only thing that indexes the memory.
-#[derive(Drop)]
+#[derive(Clone, Copy)]
 pub struct Place(pub u16);
 
 // The two bus lines as the last sample left them; true is high.
-#[derive(Drop)]
+#[derive(Clone, Copy)]
 pub struct Lines {
     pub scl: bool,
     pub sda: bool,
@@ -20,7 +20,7 @@ pub struct Lines {
 
 // The byte on the wire: whether a bit is taken and not yet committed, that bit, how many bits are
 // committed (0 to 8), and their value, highest first.
-#[derive(Drop)]
+#[derive(Clone, Copy)]
 pub struct Frame {
     pub held: bool,
     pub bit: bool,
@@ -28,14 +28,14 @@ pub struct Frame {
     pub shift: u8,
 }
 
-#[derive(Drop)]
+#[derive(Clone, Copy)]
 pub struct Wire {
     pub lines: Lines,
     pub frame: Frame,
 }
 
 // What the part expects next, or sends.
-#[derive(Drop)]
+#[derive(Clone, Copy)]
 pub enum Phase {
     Idle,
     Silent,
@@ -50,7 +50,7 @@ pub enum Phase {
 
 // The conversation: its phase, the address's high byte, the byte being sent (the bit that is out is
 // its highest; 0 where none is being sent), and the part's own SDA level (false pulls it low).
-#[derive(Drop)]
+#[derive(Clone, Copy)]
 pub struct Talk {
     pub phase: Phase,
     pub high: u8,
@@ -60,7 +60,7 @@ pub struct Talk {
 
 // The control register: the stored bits, the two latches, whether the register is chosen, and the
 // byte that waits for a stop (0 where none is pending).
-#[derive(Drop)]
+#[derive(Clone, Copy)]
 pub struct Control {
     pub stored: u8,
     pub wel: bool,
@@ -71,7 +71,7 @@ pub struct Control {
 }
 
 // What a sign on the wire can change, but for the page load.
-#[derive(Drop)]
+#[derive(Clone, Copy)]
 pub struct Device {
     pub talk: Talk,
     pub counter: Place,
@@ -79,20 +79,20 @@ pub struct Device {
 }
 
 // The page load: 64 bytes and which of them came.
-#[derive(Drop)]
+#[derive(Clone, Copy)]
 pub struct Load {
     pub bytes: [u8; 64],
     pub marks: [bool; 64],
 }
 
-#[derive(Drop)]
+#[derive(Clone, Copy)]
 pub struct Watchdog {
     pub running: bool,
     pub left: u32,
 }
 
 // Times left, in microseconds, with reset and the low-VCC flag.
-#[derive(Drop)]
+#[derive(Clone, Copy)]
 pub struct Timers {
     pub write: u32,
     pub hold: u32,
@@ -102,14 +102,14 @@ pub struct Timers {
 }
 
 // The chip on the bench: its part number and its device select.
-#[derive(Drop)]
+#[derive(Clone, Copy)]
 pub struct Chip {
     pub part: u16,
     pub select: u8,
 }
 
 // The whole state. Definitions take its fields anew by the setters of specs/State.
-#[derive(Drop)]
+#[derive(Clone, Copy)]
 pub struct State {
     pub chip: Chip,
     pub timers: Timers,

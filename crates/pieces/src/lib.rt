@@ -1,4 +1,6 @@
 // The samples of a dump, piece after piece: rows of times and level bytes as a replay takes them.
+#![tactic(auto)]
+
 mod quick;
 
 ghost use Rattle.std.specs.Prelude.{◌≡◌, ◌≤◌, length};
@@ -20,7 +22,7 @@ pub const MOST_ELAPSED: u64 = limits::MOST_ELAPSED as u64;
 
 // Where a dump is left: behind the time line of the next moment, whose time it has, with what is left of the time up to it and the
 // levels before it; or over.
-#[derive(Drop)]
+#[derive(Clone, Copy)]
 pub struct Mark {
     pub over: bool,
     pub at: usize,
@@ -30,14 +32,14 @@ pub struct Mark {
 }
 
 // How many samples were filled in, and where the dump is left.
-#[derive(Drop)]
+#[derive(Clone, Copy)]
 pub struct Filled {
     pub count: usize,
     pub mark: Mark,
 }
 
 // A moment's levels, and the time line behind it, if there is one.
-#[derive(Drop)]
+#[derive(Clone, Copy)]
 pub struct Moved {
     pub over: bool,
     pub at: usize,

@@ -7,7 +7,7 @@ ghost use Rattle.pieces.specs.Parts.{Takes};
 use wires::{marks, times};
 
 // A moment's levels as far as they were read, and the time line behind it, if it was reached.
-#[derive(Drop)]
+#[derive(Clone, Copy)]
 pub struct Taken {
     pub closed: bool,
     pub at: usize,

@@ -1,4 +1,6 @@
 // The places where a dump and the twin disagree, gathered from the rows of one piece.
+#![tactic(auto)]
+
 ghost use Rattle.std.specs.Prelude.{◌≡◌, ◌≤◌, ◌+◌, length};
 ghost use Rattle.places.specs.Places.{disagrees};
 ghost use Rattle.places.specs.Parts.{Gathers, LaysOut, BringsOut};

@@ -14,7 +14,7 @@ use part::state::{Device, Load, PAGE, State, Talk};
 
 // Where the loops stopped, and the sample before which they did. The talk's bits stand in `now`, its phase
 // in the device.
-#[derive(Drop)]
+#[derive(Clone, Copy)]
 pub struct Gone {
     pub times: Times,
     pub device: Device,

@@ -1,6 +1,8 @@
 // Many samples in one go: all but those in which a timer ends, reset goes on with VCC good, or a stop has
 // something to do. The loops run on numbers and bools, so that the processor's registers hold what they
 // change; every other sample is left to `sample::steps::step`.
+#![tactic(auto)]
+
 mod awake;
 
 ghost use Rattle.std.specs.Prelude.{◌≡◌, ◌≤◌, length};

@@ -1,4 +1,6 @@
 // Power-up, and what a caller asks of a part beside replaying it.
+#![tactic(auto)]
+
 ghost use Rattle.std.specs.Prelude.{◌≡◌};
 ghost use Rattle.power.specs.Power.{powered_up};
 ghost use Rattle.power.specs.Promises.{PowersUp, ReadsRegister};
@@ -10,7 +12,7 @@ use part::state::{
 use refusals::verdicts;
 
 // A reply with the state beside it.
-#[derive(Drop)]
+#[derive(Clone, Copy)]
 pub struct Replayed {
     pub reply: Reply,
     pub state: State,

@@ -1,4 +1,6 @@
 // Reading an image of any form of record, line after line.
+#![tactic(auto)]
+
 ghost use Rattle.std.specs.Prelude.{◌≡◌, ◌≤◌, length, take};
 ghost use Rattle.formats.specs.Formats.{form_of};
 ghost use Rattle.reader.specs.Parts.{ReadsLines, ReadsInto};

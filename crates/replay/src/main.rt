@@ -1,5 +1,7 @@
 // `replay DUMP IMAGE [PART [SELECT [STORED]]]` replays a value change dump on the twin of a part that holds an image, and writes the place
 // of each sample with SCL high where the twin pulls SDA low and the dump shows it high, one to a line; or one line with its refusal.
+#![tactic(auto)]
+
 use libc::STDERR_FILENO;
 use replayed::given;
 

@@ -1,5 +1,7 @@
 // Runs the cases that its arguments name through the function of the program `replay`, and writes a line with each dump's name before what
 // is written for it. A case is five words: dump, image, part, select and stored byte.
+#![tactic(auto)]
+
 ghost use Rattle.std.specs.Prelude.{◌+◌, ◌≤◌};
 
 use libc::STDOUT_FILENO;

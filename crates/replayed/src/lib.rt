@@ -1,5 +1,7 @@
 // From the names of a dump and an image to standard output: what the programs `replay` and `replay_cases` share. All that is written there
 // is made by proved functions of `replaying` and `texts`.
+#![tactic(auto)]
+
 pub mod given;
 
 ghost use Rattle.std.specs.Prelude.{◌≡◌, length};
@@ -12,7 +14,7 @@ use ground::{Reply, kinds};
 use libc::{STDERR_FILENO, STDOUT_FILENO};
 
 // What is read of a file: how many bytes, and whether that is all of it, or as much as the room holds.
-#[derive(Drop)]
+#[derive(Clone, Copy)]
 struct Content {
     is_whole: bool,
     length: usize,

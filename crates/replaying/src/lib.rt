@@ -1,4 +1,6 @@
 // The work of the program `replay`: from a dump and an image to what is written for them.
+#![tactic(auto)]
+
 pub mod rooms;
 
 ghost use Rattle.std.specs.Prelude.{◌≡◌, length};
@@ -10,7 +12,7 @@ use disagreements::{Opened, Stand};
 use ground::Reply;
 
 // What was written of a piece, and where the dump is left.
-#[derive(Drop)]
+#[derive(Clone, Copy)]
 pub struct Told {
     pub count: usize,
     pub length: usize,

@@ -1,4 +1,6 @@
 // The words of a reply, as bytes.
+#![tactic(auto)]
+
 ghost use Rattle.std.specs.Prelude.{◌≡◌, min};
 ghost use Rattle.ground.specs.Cases.{or_zero};
 ghost use Rattle.ground.specs.Verdict.{meant};
@@ -78,7 +80,7 @@ pub fn closing(state: State) -> [u8; 32]
 }
 
 // The bytes that end a reply: so many from the front.
-#[derive(Drop)]
+#[derive(Clone, Copy)]
 pub struct Tail {
     pub bytes: [u8; 4],
     pub length: usize,

@@ -1,5 +1,7 @@
 // How long the rows of a case are, room for them, and whether they fit it. Room is handed out as zeros;
 // that its length is said beside its content is for those who lend it as a slice.
+#![tactic(auto)]
+
 ghost use Rattle.std.specs.Prelude.{◌≡◌, length, replicate};
 ghost use Rattle.rooms.specs.Rooms.{asked_of, fits_of};
 
@@ -10,7 +12,7 @@ use form::words;
 pub const ROW: usize = 65537;
 
 // How long the rows of a case are, or the room for them.
-#[derive(Drop)]
+#[derive(Clone, Copy)]
 pub struct Lengths {
     pub array: usize,
     pub raw: usize,

@@ -1,4 +1,6 @@
 // What one sample says, as entries: its sign, and where reset and a write cycle begin and end.
+#![tactic(auto)]
+
 ghost use Rattle.std.specs.Prelude.{◌≡◌, ◌+◌, ◌≤◌};
 ghost use Rattle.entries.specs.Entries.{Says};
 ghost use Rattle.sample.specs.Sample.{sign_in, seen_by};

@@ -1,4 +1,6 @@
 // The sections of a dump: which may stand where, and what each token of one is. Nothing here knows a wire, a time or a value.
+#![tactic(auto)]
+
 mod keywords;
 mod steps;
 
@@ -6,7 +8,7 @@ pub use keywords::keyword_of;
 pub use steps::{hear, is_body, open};
 
 // How far the definitions are: which of the sections that come once have begun.
-#[derive(Drop)]
+#[derive(Clone, Copy)]
 pub enum Stage {
     Start,
     Scaled,
@@ -17,7 +19,7 @@ pub enum Stage {
 
 // What the next token is taken for. `Between` is outside every section, `Skipped` inside one that is not looked at, `Close` before the
 // `$end` of any other, and `Wrong` behind the first token that is malformed.
-#[derive(Drop)]
+#[derive(Clone, Copy)]
 pub enum Place {
     Between,
     Skipped,
@@ -35,7 +37,7 @@ pub enum Place {
 }
 
 // A word that begins or ends a section. `Remark` is $date or $version.
-#[derive(Drop)]
+#[derive(Clone, Copy)]
 pub enum Keyword {
     Remark,
     Comment,
@@ -50,7 +52,7 @@ pub enum Keyword {
 }
 
 // What a token of a section does: it leads to another place, is the code or the name of a wire, ends the definitions, or is malformed.
-#[derive(Drop)]
+#[derive(Clone, Copy)]
 pub enum Step {
     Moves { stage: Stage, place: Place },
     Codes,

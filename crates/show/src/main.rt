@@ -1,5 +1,7 @@
 // Reads one case in the form of docs/BENCH.md on standard input and prints it transfer by transfer,
 // with the bytes of the array that changed; or one line with its refusal.
+#![tactic(auto)]
+
 mod changes;
 mod printing;
 mod reasons;

@@ -8,7 +8,7 @@ use twin::Reply;
 
 // Where the text stands: at a line's beginning, in the line of a sample, or in that of a byte whose
 // ninth clock is to come, with the byte's entry.
-#[derive(Drop)]
+#[derive(Clone, Copy)]
 pub enum Stands {
     AtBeginning,
     InSample(u64),

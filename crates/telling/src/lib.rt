@@ -1,5 +1,7 @@
 // A reply told in two numbers, for languages that have no enums; and the image operations that tell theirs so. A reply row of
 // another length than two has no room for it: nothing is done then.
+#![tactic(auto)]
+
 ghost use Rattle.std.specs.Prelude.{◌≡◌, length};
 ghost use Rattle.ground.specs.Verdict.{meant};
 ghost use Rattle.telling.specs.Told.{told, ReadsThrough, WritesThrough};

@@ -1,4 +1,6 @@
 // `tidy [PART]` reads the image of a part on standard input and writes its fixed form to standard output, or one line with its refusal.
+#![tactic(auto)]
+
 use libc::{STDIN_FILENO, STDOUT_FILENO};
 
 // A word that is longer than its room is read as an empty one, and so is no number.

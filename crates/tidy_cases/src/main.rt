@@ -1,9 +1,11 @@
 // Runs the files that its arguments name through the function of the program `tidy`, and writes a line with each file's name before
 // what is written for it. An argument that is a number names no file but the part of the files after it; before the first it is 4323.
+#![tactic(auto)]
+
 use libc::STDOUT_FILENO;
 
 // Where the program stands after an argument: the part of the next file, and whether it goes on.
-#[derive(Drop)]
+#[derive(Clone, Copy)]
 struct Turn {
     part: u16,
     goes_on: bool,

@@ -1,4 +1,6 @@
 // The work of the program `tidy`: from the text of an image to what is written for it.
+#![tactic(auto)]
+
 pub mod rooms;
 
 ghost use Rattle.std.specs.Prelude.{◌≡◌, true, ◌≤◌, length};

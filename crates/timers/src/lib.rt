@@ -1,4 +1,6 @@
 // Rules 1 and 2 of a sample: time passes, and the supply is good or low.
+#![tactic(auto)]
+
 ghost use Rattle.std.specs.Prelude.{◌≡◌, ◌-◌};
 ghost use Rattle.timers.specs.Timers.{loaded_of, timed_of, supplied_of};
 

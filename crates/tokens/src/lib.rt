@@ -1,4 +1,6 @@
 // The text of a dump as tokens: what stands between blanks, each with the line that it stands on, counted from 0.
+#![tactic(auto)]
+
 ghost use Rattle.std.specs.Prelude.{◌≡◌, true, ◌≤◌, length};
 ghost use Rattle.tokens.specs.Tokens.{blank, same_word, last_line};
 ghost use Rattle.tokens.specs.Parts.{Passes, EndsWord, Finds};
@@ -8,14 +10,14 @@ pub const SPACE: u8 = 0x20;
 const TAB: u8 = 0x09;
 
 // The next token, by where it starts and ends, with its line; or that none is left.
-#[derive(Drop)]
+#[derive(Clone, Copy)]
 pub enum Found {
     Word { from: usize, to: usize, line: usize },
     End,
 }
 
 // A place in a text, and the line that it is on.
-#[derive(Drop)]
+#[derive(Clone, Copy)]
 pub struct Past {
     pub at: usize,
     pub line: usize,

@@ -1,5 +1,7 @@
 // Reads one case in the form of docs/BENCH.md on standard input and writes it as a value change dump
 // (IEEE 1364), with what the part answered beside the capture; or one line with its refusal.
+#![tactic(auto)]
+
 mod printing;
 
 use drawing::Drawn;

@@ -1,5 +1,7 @@
 // A capture as a list of what went over the bus: starts, stops, bytes, ninth bits, write cycles and
 // resets, each a number with the place of its sample.
+#![tactic(auto)]
+
 ghost use Rattle.std.specs.Prelude.{◌≡◌, length};
 ghost use Rattle.transfers.specs.Promises.{Walks, Lists};
 
@@ -10,7 +12,7 @@ use refusals::verdicts;
 use sample::steps;
 
 // Accepted with the count of entries, or refused with number and place; the state beside it.
-#[derive(Drop)]
+#[derive(Clone, Copy)]
 pub struct Listed {
     pub reply: Reply,
     pub state: State,

@@ -7,7 +7,7 @@ use replies::Tail;
 
 // What a reply says beside the answer row and the array: whether those two, the closing bytes and the
 // tail follow the opening ones at all, and the bytes that open, close and end it.
-#[derive(Drop)]
+#[derive(Clone, Copy)]
 pub struct Said {
     pub ran: bool,
     pub opening: [u8; 8],

@@ -11,7 +11,7 @@ use twin::{Replayed, Reply};
 const BLANK: u8 = 0xEE;
 
 // The last reply with its state, and whether the part was powered up at all.
-#[derive(Drop)]
+#[derive(Clone, Copy)]
 pub struct Tried {
     pub ran: bool,
     pub last: Replayed,

@@ -1,4 +1,6 @@
 // Two lines become signs. Nothing here knows what a byte means.
+#![tactic(auto)]
+
 ghost use Rattle.std.specs.Prelude.{◌≡◌};
 ghost use Rattle.wire.specs.Sign.{pushed, clean_frame, fall_sign, fall_frame, sign_of, wire_of};
 
@@ -6,7 +8,7 @@ use part::state::{Frame, Lines, Wire};
 
 // What a sample shows on the wire: nothing, a start, a stop with the bits committed when it came, a
 // bit committed below the eighth, a byte at its eighth fall, or the ninth bit at its fall.
-#[derive(Drop)]
+#[derive(Clone, Copy)]
 pub enum Sign {
     Quiet,
     Start,
@@ -17,7 +19,7 @@ pub enum Sign {
 }
 
 // A sign, and the wire after it.
-#[derive(Drop)]
+#[derive(Clone, Copy)]
 pub struct Seen {
     pub sign: Sign,
     pub wire: Wire,

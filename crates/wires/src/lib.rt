@@ -2,6 +2,8 @@
 //
 // The marks of a code are one number: 16 if a wire was declared with it, and 1, 2, 4 and 8 if it serves SCL, SDA, WP and VCC: the bits
 // of a level byte.
+#![tactic(auto)]
+
 pub mod marks;
 pub mod times;
 pub mod values;

@@ -1,4 +1,6 @@
 // Why a part that hears a byte withholds its acknowledge.
+#![tactic(auto)]
+
 ghost use Rattle.std.specs.Prelude.{◌≡◌};
 ghost use Rattle.withheld.specs.Withheld.{register_reason_by, data_reason, reason_of};
 
@@ -7,7 +9,7 @@ use part::state::{Control, Device, Phase, Place};
 
 // The reason, where there is one. A locked page is told with the block code and the pages that it
 // locks, both ends included.
-#[derive(Drop)]
+#[derive(Clone, Copy)]
 pub enum Why {
     NotWithheld,
     WelLow,

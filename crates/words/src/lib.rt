@@ -1,4 +1,6 @@
 // Number words of a command line: decimal, or hexadecimal after `0x`.
+#![tactic(auto)]
+
 ghost use Rattle.std.specs.Prelude.{◌≡◌, ◌+◌, ◌*◌, min};
 ghost use Rattle.words.specs.Words.{part_named, byte_named, figure_of, numeral, figures_value, is_number, counts_as};
 ghost use Rattle.words.specs.Marks.{MarkEnds};

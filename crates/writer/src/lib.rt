@@ -1,4 +1,6 @@
 // Writing an image of any form of record, row after row.
+#![tactic(auto)]
+
 ghost use Rattle.std.specs.Prelude.{◌≡◌, ◌+◌, ◌≤◌, ◌<◌, length};
 ghost use Rattle.forms.specs.Writing.{most_length};
 ghost use Rattle.formats.specs.Formats.{form_of};

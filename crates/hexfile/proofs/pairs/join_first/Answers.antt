@@ -1,0 +1,39 @@
+-- `hexfile::pairs::join_first` meets its contract: values behind those that count change nothing before them.
+use Prim.Native.Nat.{◌≤◌}
+use mathlib.Core.Path.{sym}
+use native.Mathlib.Omega.{arith}
+use lib.ListN.{length}
+use lib.Seq.{length-take-le}
+use Rattle.hexfile.proofs.WindowLaws.{first-few, first-window}
+use Rattle.hexfile.proofs.pairs.join_first.Goals as goal
+
+pub slice_bounds-join-end : goal.slice_bounds-join-end
+slice_bounds-join-end c = sym (length-take-le _ _ c.requires.count_in_bounds)
+
+pub slice_bounds-join-end-then-text-lt-WINDOW-2 : goal.slice_bounds-join-end-then-text-lt-WINDOW-2
+slice_bounds-join-end-then-text-lt-WINDOW-2 c = sym (length-take-le _ _ (omega arith))
+
+pub join-requires : goal.join-requires
+join-requires c =
+    let args = c.args in
+    let pre = c.requires in
+    let h : args.count ≤ length args.room.now = omega arith in
+    rw (length-take-le _ args.text.now pre.count_in_bounds, length-take-le args.count args.room.now h)
+
+pub returns-then-text-lt-WINDOW : goal.returns-then-text-lt-WINDOW
+returns-then-text-lt-WINDOW c = first-few _ _ _ c.requires.count_in_bounds c.join.ensures
+
+pub slice_bounds-join-end-2 : goal.slice_bounds-join-end-2
+slice_bounds-join-end-2 c = sym (length-take-le 16 c.args.text.now c.if-text-lt-WINDOW.false)
+
+pub slice_bounds-join-end-4 : goal.slice_bounds-join-end-4
+slice_bounds-join-end-4 c = sym (length-take-le 8 c.args.room.now c.requires.count_bound.1)
+
+pub join-requires-2 : goal.join-requires-2
+join-requires-2 c =
+    let args = c.args in
+    let pre = c.requires in
+    rw (length-take-le 16 args.text.now (omega arith), length-take-le 8 args.room.now pre.count_bound.1)
+
+pub returns : goal.returns
+returns c = first-window c.args.text.now c.args.room.now _ c.if-text-lt-WINDOW.false c.requires.count_bound.0 c.join-2.ensures

@@ -1,0 +1,29 @@
+-- `words::number_of` meets its contract: each return is one row of the table.
+use mathlib.Core.Path.{sym, ◌∙◌}
+use Rattle.words.proofs.WordLaws.{number-decimal, number-marked, number-neither}
+use Rattle.words.proofs.number_of.Goals as goal
+
+pub returns-then-is_numeral : goal.returns-then-is_numeral
+returns-then-is_numeral c = number-decimal _ _ (sym c.is_numeral.ensures ∙ c.if-is_numeral.true) c.value.ensures
+
+pub returns-then-is_numeral-2 : goal.returns-then-is_numeral-2
+returns-then-is_numeral-2 c =
+    let mark = c in
+    number-marked
+    _
+    _
+    mark.after-mark.ensures
+    (sym mark.before.before.is-numeral.ensures ∙ mark.before.if1.false)
+    _
+    (sym c.is_numeral-2.ensures ∙ c.if-is_numeral-2.true)
+    c.value-then-is_numeral-2.ensures
+
+pub returns : goal.returns
+returns c =
+    number-neither
+    _
+    _
+    c.after_mark-from.ensures
+    (sym c.is_numeral.ensures ∙ c.if-is_numeral.false)
+    _
+    (sym c.is_numeral-2.ensures ∙ c.if-is_numeral-2.false)
