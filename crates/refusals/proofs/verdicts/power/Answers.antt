@@ -16,9 +16,9 @@ returns-then-select-gt-MOST_SELECT c = rw (← c.kind_of-kind.ensures, not-zero 
 pub returns-then-not-is_storable : goal.returns-then-not-is_storable
 unfolding meant power_of
 returns-then-not-is_storable c =
-    rw (← c.kind_of-kind.ensures, not-zero _ c.if-kind-eq0.false, le-leb _ _ c.if-select-gt-MOST_SELECT.false, ← c.is_storable.ensures, not-held c.is_storable.result c.if-not-is_storable.true)
+    rw (← c.kind_of-kind.ensures, not-zero _ c.if-kind-eq0.false, le-leb _ _ c.if-select-gt-MOST_SELECT.false, ← c.is_storable.ensures, c.if-not-is_storable.true)
 
 pub returns : goal.returns
 unfolding meant power_of
 returns c =
-    rw (← c.kind_of-kind.ensures, not-zero _ c.if-kind-eq0.false, le-leb _ _ c.if-select-gt-MOST_SELECT.false, ← c.is_storable.ensures, not-failed c.is_storable.result c.if-not-is_storable.false)
+    rw (← c.kind_of-kind.ensures, not-zero _ c.if-kind-eq0.false, le-leb _ _ c.if-select-gt-MOST_SELECT.false, ← c.is_storable.ensures, c.if-not-is_storable.false)
