@@ -20,18 +20,16 @@ overflow_sub-result-then-within-3 c = within_low _ _ _ (sym c.within-3.ensures �
 
 pub returns-then-within-3 : goal.returns-then-within-3
 returns-then-within-3 c =
-    let first = c in
     digit-lower
     _
-    (sym first.before.within.ensures ∙ first.if1.false)
+    (sym c.within.ensures ∙ c.if-within.false)
     (sym c.within-2.ensures ∙ c.if-within-2.false)
     (sym c.within-3.ensures ∙ c.if-within-3.true)
 
 pub returns : goal.returns
 returns c =
-    let first = c in
     digit-none
     _
-    (sym first.before.within.ensures ∙ first.if1.false)
+    (sym c.within.ensures ∙ c.if-within.false)
     (sym c.within-2.ensures ∙ c.if-within-2.false)
     (sym c.within-3.ensures ∙ c.if-within-3.false)

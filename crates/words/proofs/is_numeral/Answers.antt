@@ -15,11 +15,10 @@ pub returns-then-digit-base : goal.returns-then-digit-base
 returns-then-digit-base c = digit-fails _ _ _ c.loop-i-test.true c.digit.ensures c.if-digit-base.true ∙ c.loop-i.invariant.1
 
 pub loop-i-preserved : goal.loop-i-preserved
-loop-i-preserved c =
-    (
-      search rules,
-      rw add-one (digit-holds _ _ _ c.loop-i-test.true c.digit.ensures c.if-digit-base.false ∙ c.loop-i.invariant.1),
-    )
+loop-i-preserved c = (
+  search rules,
+  rw add-one (digit-holds _ _ _ c.loop-i-test.true c.digit.ensures c.if-digit-base.false ∙ c.loop-i.invariant.1),
+)
 
 pub returns : goal.returns
 returns c = digits-end _ _ _ c.loop-i-test.false ∙ c.loop-i.invariant.1

@@ -8,12 +8,11 @@ returns-then-is_numeral c = number-decimal _ _ (sym c.is_numeral.ensures ∙ c.i
 
 pub returns-then-is_numeral-2 : goal.returns-then-is_numeral-2
 returns-then-is_numeral-2 c =
-    let mark = c in
     number-marked
     _
     _
-    mark.after-mark.ensures
-    (sym mark.before.before.is-numeral.ensures ∙ mark.before.if1.false)
+    c.after_mark-from.ensures
+    (sym c.is_numeral.ensures ∙ c.if-is_numeral.false)
     _
     (sym c.is_numeral-2.ensures ∙ c.if-is_numeral-2.true)
     c.value-then-is_numeral-2.ensures
