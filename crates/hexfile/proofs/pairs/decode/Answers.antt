@@ -27,7 +27,7 @@ loop-from-preserved c =
     let all = c.all_digits in (
       omega arith,
       omega arith,
-      same_len_mid b.at (b.at + 8 - b.at) b.room c.join.new.1.0 c.join.auto.1.0 ∙ b.invariant.2,
+      same_len_mid b.at (b.at + 8 - b.at) b.room c.join.new.room c.join.auto.room ∙ b.invariant.2,
       decode-turn _ _ _ b.from b.at (omega arith) (omega arith) b.invariant.3 all.ensures c.if-all_digits.true c.join.ensures,
     )
 
@@ -43,10 +43,11 @@ returns-else-all_digits c =
 pub join_first-requires : goal.join_first-requires
 join_first-requires c =
     let b = c.loop-from in
-    let text = c.args.text.now in (
-      rw (tail-whole b.from text, length-drop b.from text) (omega arith),
-      (omega arith, rw (tail-whole b.at b.room, length-drop b.at b.room) (omega arith)),
-    )
+    let text = c.args.text.now in record {
+      count_in_bounds = rw (tail-whole b.from text, length-drop b.from text) (omega arith);
+      count_bound = omega arith;
+      in_bounds = rw (tail-whole b.at b.room, length-drop b.at b.room) (omega arith);
+    }
 
 pub slice_bounds-ends_in_digits-end : goal.slice_bounds-ends_in_digits-end
 slice_bounds-ends_in_digits-end c = sym (length-take-le _ _ c.requires.n_in_bounds)
@@ -55,14 +56,14 @@ pub shape_of-room : goal.shape_of-room
 shape_of-room c =
     let b = c.loop-from in
     let first = c.join_first in
-    same_len_mid b.at (length b.room - b.at) b.room first.new.1.1.0 first.auto.1.1.0 ∙ b.invariant.2
+    same_len_mid b.at (length b.room - b.at) b.room first.new.room first.auto.room ∙ b.invariant.2
 
 pub returns : goal.returns
 returns c =
     let b = c.loop-from in
     let first = c.join_first in
-    let k : length first.new.1.1.0 ≡ length b.room - b.at =
-    rw (tail-whole b.at b.room, length-drop b.at b.room) at first.auto.1.1.0 in
-    decode-ends c.args.text.now b.room first.new.1.1.0 _ c.args.n b.from b.at c.requires.n_in_bounds
+    let k : length first.new.room ≡ length b.room - b.at =
+    rw (tail-whole b.at b.room, length-drop b.at b.room) at first.auto.room in
+    decode-ends c.args.text.now b.room first.new.room _ c.args.n b.from b.at c.requires.n_in_bounds
     c.if-n-ne0.false
     b.invariant.0 (omega arith) (omega arith) (omega arith) b.invariant.3 first.ensures c.ends_in_digits.ensures

@@ -27,13 +27,13 @@ pub slice_bounds-join-end-2 : goal.slice_bounds-join-end-2
 slice_bounds-join-end-2 c = sym (length-take-le 16 c.args.text.now c.if-text-lt-WINDOW.false)
 
 pub slice_bounds-join-end-4 : goal.slice_bounds-join-end-4
-slice_bounds-join-end-4 c = sym (length-take-le 8 c.args.room.now c.requires.count_bound.1)
+slice_bounds-join-end-4 c = sym (length-take-le 8 c.args.room.now c.requires.in_bounds)
 
 pub join-requires-2 : goal.join-requires-2
 join-requires-2 c =
     let args = c.args in
     let pre = c.requires in
-    rw (length-take-le 16 args.text.now (omega arith), length-take-le 8 args.room.now pre.count_bound.1)
+    rw (length-take-le 16 args.text.now (omega arith), length-take-le 8 args.room.now pre.in_bounds)
 
 pub returns : goal.returns
-returns c = first-window c.args.text.now c.args.room.now _ c.if-text-lt-WINDOW.false c.requires.count_bound.0 c.join-2.ensures
+returns c = first-window c.args.text.now c.args.room.now _ c.if-text-lt-WINDOW.false c.requires.count_bound c.join-2.ensures

@@ -9,7 +9,7 @@ use Rattle.hexfile.proofs.sums.sums_to_zero.Goals as goal
 pub loop-i-init : goal.loop-i-init
 loop-i-init c =
     let n = c.args.count in
-    let same = same_len_mid n (n + 8 - n) c.args.room.now c.clear.new.0 c.clear.auto.0 in
+    let same = same_len_mid n (n + 8 - n) c.args.room.now c.clear.new.row c.clear.auto.row in
     (omega arith, omega arith, omega arith, refl)
 
 pub loop-i-preserved : goal.loop-i-preserved
@@ -21,7 +21,7 @@ pub shape_of-room : goal.shape_of-room
 shape_of-room c =
     let n = c.args.count in
     let cleared = c.clear in
-    same_len_mid n (n + 8 - n) c.args.room.now cleared.new.0 cleared.auto.0
+    same_len_mid n (n + 8 - n) c.args.room.now cleared.new.row cleared.auto.row
 
 pub returns : goal.returns
 returns c =
