@@ -1,7 +1,7 @@
 -- Texts in a buffer.
 use Rattle.std.specs.Prelude.{ℕ, ◌+◌, List, ◌++◌, ◌≡◌, length, drop}
 use Rattle.std.proofs.lemmas.List.Edits.{sets}
-use Rattle.io.specs.Counts.{IsPrefixLen}
+use Rattle.std.specs.Counts.{IsPrefixLen}
 
 -- A text at the start of a buffer: its length is answered, the buffer's other bytes stay; the last part repeats r ≤ length for callers.
 pub record Starts (text out : List ℕ) (r : ℕ) (out' : List ℕ) : Type 0 where

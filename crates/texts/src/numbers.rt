@@ -12,10 +12,11 @@ pub fn put_decimal(value: u64, out: &mut [u8], at: usize) -> usize
     ensures lays { Lays (decimal_of value) out.old at result out.new }
     ensures upper_bound { result ≤ at + 20 }
 {
-    let mut digits = [0u8; DIGITS];
-    let n = io::decimal(value, &mut digits);
-    bytes::copy(&digits[..n], &mut out[at..]);
-    at + n
+    let mut buffer = itoa::Buffer::new();
+    let digits = buffer.format(value).as_bytes();
+    let end = at + digits.len();
+    out[at..end].copy_from_slice(digits);
+    end
 }
 
 // The two digits of a byte.
