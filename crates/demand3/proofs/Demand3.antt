@@ -127,7 +127,7 @@ until-rows (e ∷ es) [] s w but f = record { states = refl; answers = refl; arr
 until-rows {a} {xs} {ys} (e ∷ es) (l ∷ ls) s w but f =
     let d = and_split (not (fetches a e l (part_of s xs))) (fetches_none a es ls (part_step e l (part_of s xs))) f in
     let x = states-stay e l s but (not-true (fetches a e l (part_of s xs)) d.0) in
-    let u = until-rows es ls (step_of e l xs s) (whole-kept e l xs s w) (arrays-kept e l s w but) d.1 in
+    let u = until-rows {a = a} {xs = array_of e l xs s} {ys = array_of e l ys s} es ls (step_of e l xs s) (whole-kept e l xs s w) (arrays-kept e l s w but) d.1 in
     let p : Part = part_of (step_of e l xs s) (array_of e l xs s) in
     let m = ap (λ (t : State). part_of t (array_of e l ys s)) x in
     record {
@@ -188,9 +188,9 @@ covers-rows : {a : ℕ} {xs ys : List ℕ} (i : ℕ) (es ls : List ℕ) (s : Sta
     → Covers a i es ls (part_of s xs) (part_of s ys)
 covers-rows i [] ls s w but = uncovered refl
 covers-rows i (e ∷ es) [] s w but = uncovered refl
-covers-rows {a} {xs} i (e ∷ es) (l ∷ ls) s w but =
+covers-rows {a = a} {xs = xs} {ys = ys} i (e ∷ es) (l ∷ ls) s w but =
     covers-by e l s (fetches a e l (part_of s xs)) (covers a e l (part_of s xs)) w but refl refl
-    (covers-rows (i + 1) es ls (step_of e l xs s) (whole-kept e l xs s w) (arrays-kept e l s w but))
+    (covers-rows {a = a} {xs = array_of e l xs s} {ys = array_of e l ys s} (i + 1) es ls (step_of e l xs s) (whole-kept e l xs s w) (arrays-kept e l s w but))
 
 module _ {a : ℕ} {es ls : List ℕ} {p q : Part} where
   -- Parts that go through the rows so differ first where they first reach an unequal bit.

@@ -7,4 +7,4 @@ returns-then-reset c = rw c.if-reset.true
 
 pub returns : goal.returns
 unfolding sign_in
-returns c = rw (c.if-reset.false, ← c.line-sda.ensures, ← c.scl.ensures) (rw c.see-seen.ensures c c.say.ensures)
+returns c = rw (c.if-reset.false, ← c.line-sda.ensures, ← c.scl.ensures) (rw c.see-seen.ensures at c.say.ensures)

@@ -23,14 +23,6 @@ use Rattle.clocks.proofs.Standing.{told-long}
 use Rattle.clocks.proofs.Arms.{plain_turn}
 use Rattle.clocks.proofs.turns.pass.Goals as goal
 
--- What the loop keeps of its promise before each sample.
-record Kept (sends : Bool) (base : ℕ) (es ls : List ℕ) (from : ℕ) (c : Clocks) (row : List ℕ) (i : ℕ) (c' : Clocks) (row' : List ℕ) : Type 0 where
-  onward : from ≤ i
-  first : i ≡ from → c' ≡ c
-  long : length row' ≡ length row
-  stands : (s : State) (array row₀ : List ℕ) (first : ℕ) (t : Times) (d : Device) (m : Load) → sends ≡ sends_in d.talk.phase
-      → Stands s es ls array row₀ first base t d m c row from → Stands s es ls array row₀ first base t d m c' row' i
-
 -- Where the first sample is plain the loop does not stop before it.
 passed : {from i : ℕ} {c c' : Clocks} → from ≤ i → (i ≡ from → c' ≡ c) → (es ls : List ℕ) {t : Turn} → t ≡ turn_of c' (get_or es i 0) (get_or ls i 0)
     → turn_of c (get_or es from 0) (get_or ls from 0) ≡ Turn.Plain → (t ≡ Turn.Plain → ⊥) → from < i
@@ -47,7 +39,7 @@ not_first o e f = omega (arith, o, e, f)
 pub loop-i-init : goal.loop-i-init
 loop-i-init c =
     let pre = c.requires in
-    (pre.elapsed_len, pre.row_len.0, record { onward = le_refl _; first = λ e. refl; long = refl; stands = λ s array row₀ first t d m n g. g })
+    (pre.elapsed_len, pre.row_len, record { onward = le_refl _; first = λ e. refl; long = refl; stands = λ s array row₀ first t d m n g. g })
 
 pub offset_bounds-elapsed-i : goal.offset_bounds-elapsed-i
 offset_bounds-elapsed-i c =
@@ -69,7 +61,7 @@ turned-now-requires c = comes-plain _ _ _ c.turn_of-turn.ensures c.in-Plain.is
 pub tell-i-requires : goal.tell-i-requires
 tell-i-requires c =
     let inv = c.loop-i.invariant in
-    record { i_in_bounds = as_long _ _ _ c.loop-i-test.true (inv.2.long ∙ inv.1); base_bound = c.requires.row_len.1 }
+    record { i_in_bounds = as_long _ _ _ c.loop-i-test.true (inv.2.long ∙ inv.1); base_bound = c.requires.base_bound }
 
 pub loop-i-smaller : goal.loop-i-smaller
 loop-i-smaller c = rw c.tell-i.ensures.next (next-less _ _ c.loop-i-test.true)
@@ -105,7 +97,7 @@ returns-in_default c =
     let inv = c.loop-i.invariant.2 in
     record {
       onward = inv.onward;
-      moves = λ p h. passed inv.onward inv.first c.args.elapsed.now c.args.levels.now c.turn_of-turn.ensures p (λ e. miss (1 ∷ 2 ∷ 3 ∷ 4 ∷ 5 ∷ []) 0 tt (rw e at c.in_default.keys2));
+      moves = λ p h. passed inv.onward inv.first c.args.elapsed.now c.args.levels.now c.turn_of-turn.ensures p c.in_default.not-Plain;
       long = inv.long;
       stands = inv.stands;
     }
