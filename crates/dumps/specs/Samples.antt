@@ -1,5 +1,5 @@
 -- The samples of a dump (request 2026-03, each time line makes one sample; docs/DECISIONS.md, "2026-03, samples").
-use Rattle.std.specs.Prelude.{ℕ, ◌+◌, ◌-◌, ◌*◌, ◌/◌, List, [], ◌∷◌, ◌++◌, map, replicate}
+use Rattle.std.specs.Prelude.{ℕ, ◌-◌, ◌*◌, ◌/◌, List, [], ◌∷◌, ◌++◌, map, replicate}
 use Rattle.ground.specs.Numbers.{most_elapsed}
 use Rattle.sections.specs.Sections.{Says, moves, codes, names, defines, times, puts, breaks}
 use Rattle.tokens.specs.Tokens.{words_of}
