@@ -9,7 +9,7 @@ abbrev pub invariant-loop-i : goal.invariant-loop-i
 invariant-loop-i l =
     (length l.elapsed ≡ length l.levels)
     × (length l.initial.row ≡ length l.levels)
-    × Dims l.high l.elapsed l.levels (record { l.write = l.initial.write; l.lines = l.initial.lines; at = l.initial.i }) l.initial.row (record { l.write = l.write; l.lines = l.lines; at = l.i }) l.row
+    × Dims l.high l.elapsed l.levels (record { write = l.initial.write; lines = l.initial.lines; at = l.initial.i }) l.initial.row (record { write = l.write; lines = l.lines; at = l.i }) l.row
 
 abbrev pub decreases-loop-i : goal.decreases-loop-i
 decreases-loop-i l = length l.levels - l.i

@@ -37,14 +37,14 @@ loop-i-preserved c =
     let es = c.args.elapsed.now in
     let ls = c.args.levels.now in
     let before : Part = record { state = at.now; array = at.array } in
-    let after : Part = record { state = c.step-next.result; array = c.step-next.new.1.1.1.0 } in
+    let after : Part = record { state = c.step-next.result; array = c.step-next.new.array } in
     let e : after ≡ part_step (get_or es at.i 0) (get_or ls at.i 0) before = stepped _ _ before _ _ c.step-next.ensures.state c.step-next.ensures.kept in
     let k : at.i < length ls = c.loop-i-test.true in
     let h : at.i < length es = omega (arith, k, c.requires) in
     let said = c.put_sample-count.ensures in (
       omega (arith, k),
-      c.step-next.auto.1.1.1.0 ∙ at.invariant.1,
-      c.put_sample-count.auto.1.1.1.1.1.0 ∙ at.invariant.2,
+      c.step-next.auto.array ∙ at.invariant.1,
+      c.put_sample-count.auto.entries ∙ at.invariant.2,
       omega (arith, said.next, said.few, at.invariant.3),
       rw add-one (run-turn es ls at.i before after h k e ∙ at.invariant.4),
       row-turn es ls at.entries _ at.i at.count _ before after h k e said ∙ at.invariant.5,

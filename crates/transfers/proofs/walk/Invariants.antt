@@ -14,11 +14,11 @@ invariant-loop-i l =
     × (length l.array ≡ length l.initial.array)
     × (length l.entries ≡ length l.initial.entries)
     × (l.count ≤ l.i * 4)
-    × (run_of (drop l.i l.elapsed) (drop l.i l.levels) (record { state = l.now; l.array = l.array }) ≡ run_of l.elapsed l.levels (record { state = l.initial.now; l.array = l.initial.array }))
-    × (laid_from l.count (entries_of l.i (drop l.i l.elapsed) (drop l.i l.levels) (record { state = l.now; l.array = l.array })) l.entries
-    ≡ laid_from 0 (entries_of 0 l.elapsed l.levels (record { state = l.initial.now; l.array = l.initial.array })) l.initial.entries)
-    × (l.count + length (entries_of l.i (drop l.i l.elapsed) (drop l.i l.levels) (record { state = l.now; l.array = l.array }))
-    ≡ length (entries_of 0 l.elapsed l.levels (record { state = l.initial.now; l.array = l.initial.array })))
+    × (run_of (drop l.i l.elapsed) (drop l.i l.levels) (record { state = l.now; array = l.array }) ≡ run_of l.elapsed l.levels (record { state = l.initial.now; array = l.initial.array }))
+    × (laid_from l.count (entries_of l.i (drop l.i l.elapsed) (drop l.i l.levels) (record { state = l.now; array = l.array })) l.entries
+    ≡ laid_from 0 (entries_of 0 l.elapsed l.levels (record { state = l.initial.now; array = l.initial.array })) l.initial.entries)
+    × (l.count + length (entries_of l.i (drop l.i l.elapsed) (drop l.i l.levels) (record { state = l.now; array = l.array }))
+    ≡ length (entries_of 0 l.elapsed l.levels (record { state = l.initial.now; array = l.initial.array })))
 
 abbrev pub decreases-loop-i : goal.decreases-loop-i
 decreases-loop-i l = length l.levels - l.i
