@@ -23,7 +23,6 @@ use Rattle.wires.specs.Values.{is_value}
 use Rattle.dumps.specs.Reading.{Known, time_says, value_says, body_by, dumped_by, dumped_says, says_at, says_of}
 use Rattle.dumps.specs.Defined.{vars_of, body_at}
 use Rattle.changes.specs.declared.Mode.{Mode}
-use Rattle.changes.specs.declared.Mode.TheVariants.{Between, Skipped}
 use Rattle.changes.specs.declared.Change.{Change}
 use Rattle.changes.specs.declared.Change.TheVariants.{Time, Value, Moves, Breaks}
 use Rattle.changes.specs.Parts.{place_of, change_meant, moved_by}
