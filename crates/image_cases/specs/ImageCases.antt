@@ -1,6 +1,6 @@
 -- The bench cases of image files (document 01, Bench cases, P10 and P11), for an X4323 and for an X4283 (request 2026-01). Parts, sizes and
 -- rooms stand in them as numbers.
-use Rattle.std.specs.Prelude.{ℕ, ◌≤◌, List, [], ◌∷◌, ◌++◌, ◌≡◌, length, drop, replicate, set}
+use Rattle.std.specs.Prelude.{ℕ, ◌≤◌, List, [], ◌++◌, ◌≡◌, length, drop, replicate, set}
 use Rattle.codes.specs.Codes.{codes_of}
 use Rattle.ground.specs.Verdict.{accepted, refused, meant}
 use Rattle.ground.specs.declared.Reply.{Reply}
