@@ -1,5 +1,5 @@
 -- What a glance promises: a token, and what it says outside every section behind a time line.
-use Rattle.std.specs.Prelude.{◌≡◌, ℕ, ◌+◌, ◌-◌, ◌<◌, ◌≤◌, true, List, drop, slice_index, slice_range}
+use Rattle.std.specs.Prelude.{◌≡◌, ℕ, ◌+◌, ◌<◌, ◌≤◌, true, List, drop, slice_index, slice_range}
 use Rattle.sections.specs.declared.Place.TheVariants.{Between}
 use Rattle.sections.specs.Sections.{Says, times, puts}
 use Rattle.tokens.specs.Tokens.{tokens_from}
