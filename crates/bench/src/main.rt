@@ -5,77 +5,75 @@ ghost use Rattle.std.specs.Prelude.{◌≤◌, length};
 
 use form::headers::Header;
 use form::{headers, words};
-use libc::{STDIN_FILENO, STDOUT_FILENO};
 use replies::Tail;
 use rooms::Lengths;
+use std::io;
+use std::io::{Read, Write};
+use streams::reading;
 use trials::cases;
 use trials::cases::Said;
 
-// Fills a row from the input, and answers whether there was enough of it.
-fn fill(row: &mut [u8]) -> bool {
-    let got = io::read_full(STDIN_FILENO, row);
-    got == row.len()
-}
-
-fn write(row: &[u8]) -> bool {
-    io::write_all(STDOUT_FILENO, row)
-}
-
 // Writes as much of the tail as there is.
-fn write_tail(tail: Tail) -> bool
+fn write_tail<W: Write>(out: &mut W, tail: Tail) -> io::Result<()>
     requires { tail.length ≤ length tail.bytes }
 {
     let bytes = tail.bytes;
     let length = tail.length;
-    write(&bytes[..length])
+    out.write_all(&bytes[..length])
 }
 
 // Writes a reply; that of a refused power-up ends after its number and place.
-fn write_reply(said: Said, array: &[u8], answers: &[u8]) -> bool
+fn write_reply<W: Write>(out: &mut W, said: Said, array: &[u8], answers: &[u8]) -> io::Result<()>
     requires { said.tail.length ≤ length said.tail.bytes }
 {
     let opening = said.opening;
-    if write(&opening) {
-        if said.ran {
-            let closing = said.closing;
-            return write(answers) && write(array) && write(&closing) && write_tail(said.tail);
-        }
-        return true;
+    out.write_all(&opening)?;
+    if said.ran {
+        let closing = said.closing;
+        out.write_all(answers)?;
+        out.write_all(array)?;
+        out.write_all(&closing)?;
+        write_tail(out, said.tail)?;
     }
-    false
+    Ok(())
 }
 
 // Reads the rows of a case, each lent at just its length and in the order in which the input has them,
-// and writes the reply.
-fn reply(
+// and writes the reply; false where the input ends before they do.
+fn reply<R: Read, W: Write>(
+    input: &mut R,
+    out: &mut W,
     header: Header,
     array: &mut [u8],
     raw: &mut [u8],
     elapsed: &mut [u32],
     levels: &mut [u8],
     answers: &mut [u8],
-) -> bool {
-    if fill(array) {
-        if fill(raw) {
-            if fill(levels) {
+) -> io::Result<bool> {
+    if reading::fill(input, array)? {
+        if reading::fill(input, raw)? {
+            if reading::fill(input, levels)? {
                 words::decode(raw, elapsed);
                 let said = cases::answer(header, elapsed, levels, array, answers);
-                return write_reply(said, array, answers);
+                write_reply(out, said, array, answers)?;
+                return Ok(true);
             }
         }
     }
-    false
+    Ok(false)
 }
 
 // Lends as much of each buffer as the case asks for; a case that asks for more is not taken.
-fn lend(
+fn lend<R: Read, W: Write>(
+    input: &mut R,
+    out: &mut W,
     header: Header,
     array: &mut [u8],
     raw: &mut [u8],
     elapsed: &mut [u32],
     levels: &mut [u8],
     answers: &mut [u8],
-) -> bool {
+) -> io::Result<bool> {
     let case = rooms::asked(header);
     let room = Lengths {
         array: array.len(),
@@ -86,6 +84,8 @@ fn lend(
     };
     if rooms::fits(case, room) {
         return reply(
+            input,
+            out,
             header,
             &mut array[..case.array],
             &mut raw[..case.raw],
@@ -94,17 +94,19 @@ fn lend(
             &mut answers[..case.answers],
         );
     }
-    false
+    Ok(false)
 }
 
 // Serves the case of a whole header; false where its rows are cut off or too long.
-fn serve(header: Header) -> bool {
+fn serve<R: Read, W: Write>(input: &mut R, out: &mut W, header: Header) -> io::Result<bool> {
     let mut array = rooms::array_room();
     let mut raw = rooms::raw_room();
     let mut elapsed = rooms::elapsed_room();
     let mut levels = rooms::row_room();
     let mut answers = rooms::row_room();
     lend(
+        input,
+        out,
         header,
         &mut array,
         &mut raw,
@@ -115,37 +117,41 @@ fn serve(header: Header) -> bool {
 }
 
 // Sixteen words of a header from the input; false where there are not as many.
-fn fill_words(row: &mut [u32; 16]) -> bool {
+fn fill_words<R: Read>(input: &mut R, row: &mut [u32; 16]) -> io::Result<bool> {
     let mut bytes = [0u8; 64];
-    if fill(&mut bytes) {
+    if reading::fill(input, &mut bytes)? {
         words::decode(&bytes, row);
-        return true;
+        return Ok(true);
     }
-    false
+    Ok(false)
 }
 
 // Serves one case; false where the input has no more, or the case is cut off or too long.
-fn serve_one() -> bool {
+fn serve_one<R: Read, W: Write>(input: &mut R, out: &mut W) -> io::Result<bool> {
     let mut first = [0u32; 16];
-    if fill_words(&mut first) {
+    if fill_words(input, &mut first)? {
         let header = headers::header_of(&first);
         if header.long {
             let mut further = [0u32; 16];
-            if fill_words(&mut further) {
-                return serve(headers::longer(header, &further));
+            if fill_words(input, &mut further)? {
+                return serve(input, out, headers::longer(header, &further));
             }
-            return false;
+            return Ok(false);
         }
-        return serve(header);
+        return serve(input, out, header);
     }
-    false
+    Ok(false)
 }
 
-// A proved loop has to end, and nothing says that the input does: the turns are counted down from a
-// number that no run uses up.
-fn main() {
-    let mut turns = u64::MAX;
-    while turns > 0 && serve_one() {
-        turns -= 1;
+// A proved loop has to end, and nothing says that the input does: the turns are counted up to a number
+// that no run reaches.
+fn main(rt: HostRuntime) -> io::Result<()> {
+    let mut input = rt.stdin();
+    let mut out = rt.stdout();
+    for _ in 0..u64::MAX {
+        if !serve_one(&mut input, &mut out)? {
+            break;
+        }
     }
+    Ok(())
 }

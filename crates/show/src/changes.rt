@@ -1,19 +1,21 @@
 // Which bytes of the array changed.
 use crate::printing;
+use std::io;
+use std::io::Write;
 use texts::rows;
 
 // A line for each byte that changed.
-pub fn put_changes(before: &[u8], after: &[u8]) {
+pub fn put_changes<W: Write>(out: &mut W, before: &[u8], after: &[u8]) -> io::Result<()> {
     let mut at = rows::next_difference(before, after, 0);
     if after.len() <= at {
-        printing::put(b"array: nothing changed\n");
-        return;
+        return out.write_all(b"array: nothing changed\n");
     }
     while at < after.len() {
         if before.len() <= at {
-            return;
+            return Ok(());
         }
-        printing::put_change(at, before[at], after[at]);
+        printing::put_change(out, at, before[at], after[at])?;
         at = rows::next_difference(before, after, at + 1);
     }
+    Ok(())
 }

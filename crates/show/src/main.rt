@@ -10,61 +10,67 @@ ghost use Rattle.std.specs.Prelude.{◌≤◌, length};
 
 use form::headers::Header;
 use form::{fields, headers, words};
-use libc::STDIN_FILENO;
 use part::state::State;
 use refusals::verdicts;
 use rooms::Lengths;
+use std::io;
+use std::io::{Read, Write};
+use streams::reading;
 use transfers::Listed;
 use twin::Reply;
 
-// Fills a row from the input, and answers whether there was enough of it.
-fn fill(row: &mut [u8]) -> bool {
-    let got = io::read_full(STDIN_FILENO, row);
-    got == row.len()
-}
-
 // One replay of several: its transfers, then what it changed in the array; or the line of its refusal.
-fn show_once(
+fn show_once<W: Write>(
+    out: &mut W,
     turn: u32,
     times: u32,
     state: State,
     elapsed: &[u32],
     levels: &[u8],
     array: &mut [u8],
-) -> Listed
+) -> io::Result<Listed>
     requires { length array.old ≤ 16384 }
 {
     let mut before = rooms::array_room();
-    bytes::copy(array, &mut before);
+    let size = array.len();
+    before[..size].copy_from_slice(array);
     let mut entries = rooms::entry_room();
     let listed = transfers::list(state, elapsed, levels, array, &mut entries);
     let reply = listed.reply;
     let Reply::Accepted(count) = reply else {
-        printing::put_refusal(reply);
-        return listed;
+        printing::put_refusal(out, reply)?;
+        return Ok(listed);
     };
-    printing::put_heading(turn, times);
-    printing::put_list(&entries, count);
-    changes::put_changes(&before, array);
-    listed
+    printing::put_heading(out, turn, times)?;
+    printing::put_list(out, &entries, count)?;
+    changes::put_changes(out, &before, array)?;
+    Ok(listed)
 }
 
 // So many replays, each from the state and array that the one before left; 0 counts as 1. The rows are
 // refused the first time or never: a run leaves every field of the state within its range
 // (ranges/proofs/InRange, run-fit).
-fn show_times(times: u32, state: State, elapsed: &[u32], levels: &[u8], array: &mut [u8])
+fn show_times<W: Write>(
+    out: &mut W,
+    times: u32,
+    state: State,
+    elapsed: &[u32],
+    levels: &[u8],
+    array: &mut [u8],
+) -> io::Result<()>
     requires { length array.old ≤ 16384 }
 {
-    let mut last = show_once(1, times, state, elapsed, levels, array);
+    let mut last = show_once(out, 1, times, state, elapsed, levels, array)?;
     let mut done = 1;
     while done < times {
         let reply = last.reply;
         let Reply::Accepted(_) = reply else {
-            return;
+            return Ok(());
         };
         done += 1;
-        last = show_once(done, times, last.state, elapsed, levels, array);
+        last = show_once(out, done, times, last.state, elapsed, levels, array)?;
     }
+    Ok(())
 }
 
 // The verdict on the rows, with an answer row of a length: only that counts.
@@ -83,7 +89,13 @@ fn judged(
 
 // Powers a part up as the header says. The list asks for no answer row; where the case has one of
 // another length than its levels, a replay refuses it, and its verdict is told.
-fn show_case(header: Header, elapsed: &[u32], levels: &[u8], array: &mut [u8])
+fn show_case<W: Write>(
+    out: &mut W,
+    header: Header,
+    elapsed: &[u32],
+    levels: &[u8],
+    array: &mut [u8],
+) -> io::Result<()>
     requires array_len_bound { length array.old ≤ 16384 }
     requires answers_bound { header.answers ≤ 65537 }
 {
@@ -93,50 +105,52 @@ fn show_case(header: Header, elapsed: &[u32], levels: &[u8], array: &mut [u8])
     let up = twin::power_up(part, select, stored);
     let powered = up.reply;
     let Reply::Accepted(_) = powered else {
-        printing::put_refusal(powered);
-        return;
+        return printing::put_refusal(out, powered);
     };
     let state = headers::state_of(header, up.state);
     let answers_length = header.answers as usize;
     if answers_length != levels.len() {
-        printing::put_refusal(judged(state, elapsed, levels, array, answers_length));
-        return;
+        return printing::put_refusal(out, judged(state, elapsed, levels, array, answers_length));
     }
-    show_times(header.times, state, elapsed, levels, array);
+    show_times(out, header.times, state, elapsed, levels, array)
 }
 
 // Reads the rows of the case, each lent at just its length and in the order in which the input has
 // them, and shows it; false where the input ends before they do.
-fn show_rows(
+fn show_rows<R: Read, W: Write>(
+    input: &mut R,
+    out: &mut W,
     header: Header,
     array: &mut [u8],
     raw: &mut [u8],
     elapsed: &mut [u32],
     levels: &mut [u8],
-) -> bool
+) -> io::Result<bool>
     requires array_len_bound { length array.old ≤ 16384 }
     requires answers_bound { header.answers ≤ 65537 }
 {
-    if fill(array) {
-        if fill(raw) {
-            if fill(levels) {
+    if reading::fill(input, array)? {
+        if reading::fill(input, raw)? {
+            if reading::fill(input, levels)? {
                 words::decode(raw, elapsed);
-                show_case(header, elapsed, levels, array);
-                return true;
+                show_case(out, header, elapsed, levels, array)?;
+                return Ok(true);
             }
         }
     }
-    false
+    Ok(false)
 }
 
 // Lends as much of each buffer as the case asks for; a case that asks for more is not taken.
-fn lend(
+fn lend<R: Read, W: Write>(
+    input: &mut R,
+    out: &mut W,
     header: Header,
     array: &mut [u8],
     raw: &mut [u8],
     elapsed: &mut [u32],
     levels: &mut [u8],
-) -> bool
+) -> io::Result<bool>
     requires { length array.old ≤ 16384 }
 {
     let case = rooms::asked(header);
@@ -149,6 +163,8 @@ fn lend(
     };
     if rooms::fits(case, room) {
         return show_rows(
+            input,
+            out,
             header,
             &mut array[..case.array],
             &mut raw[..case.raw],
@@ -156,48 +172,57 @@ fn lend(
             &mut levels[..case.levels],
         );
     }
-    false
+    Ok(false)
 }
 
 // Shows the case of a whole header; false where its rows are cut off or too long.
-fn show(header: Header) -> bool {
+fn show<R: Read, W: Write>(input: &mut R, out: &mut W, header: Header) -> io::Result<bool> {
     let mut array = rooms::array_room();
     let mut raw = rooms::raw_room();
     let mut elapsed = rooms::elapsed_room();
     let mut levels = rooms::row_room();
-    lend(header, &mut array, &mut raw, &mut elapsed, &mut levels)
+    lend(
+        input,
+        out,
+        header,
+        &mut array,
+        &mut raw,
+        &mut elapsed,
+        &mut levels,
+    )
 }
 
 // Sixteen words of a header from the input; false where there are not as many.
-fn fill_words(row: &mut [u32; 16]) -> bool {
+fn fill_words<R: Read>(input: &mut R, row: &mut [u32; 16]) -> io::Result<bool> {
     let mut bytes = [0u8; 64];
-    if fill(&mut bytes) {
+    if reading::fill(input, &mut bytes)? {
         words::decode(&bytes, row);
-        return true;
+        return Ok(true);
     }
-    false
+    Ok(false)
 }
 
 // Shows the one case that is read; false where it is cut off or too long.
-fn show_one() -> bool {
+fn show_one<R: Read, W: Write>(input: &mut R, out: &mut W) -> io::Result<bool> {
     let mut first = [0u32; 16];
-    if fill_words(&mut first) {
+    if fill_words(input, &mut first)? {
         let header = headers::header_of(&first);
         if header.long {
             let mut further = [0u32; 16];
-            if fill_words(&mut further) {
-                return show(headers::longer(header, &further));
+            if fill_words(input, &mut further)? {
+                return show(input, out, headers::longer(header, &further));
             }
-            return false;
+            return Ok(false);
         }
-        return show(header);
+        return show(input, out, header);
     }
-    false
+    Ok(false)
 }
 
-fn main() {
-    if show_one() {
-        return;
+fn main(rt: HostRuntime) -> io::Result<()> {
+    let mut out = rt.stdout();
+    if show_one(&mut rt.stdin(), &mut out)? {
+        return Ok(());
     }
-    printing::put(b"no whole case: it is cut off, or longer than docs/BENCH.md allows\n");
+    out.write_all(b"no whole case: it is cut off, or longer than docs/BENCH.md allows\n")
 }

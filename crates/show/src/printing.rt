@@ -1,7 +1,8 @@
 // The text that is printed: a line for what happens at a sample, a line for each byte with what
-// was answered in its ninth clock. A failing write is not told from one that succeeds.
+// was answered in its ninth clock.
 use crate::reasons;
-use libc::STDOUT_FILENO;
+use std::io;
+use std::io::Write;
 use texts::numbers;
 use transfers::tags;
 use twin::Reply;
@@ -15,19 +16,15 @@ pub enum Stands {
     InByte(u64),
 }
 
-pub fn put(text: &[u8]) {
-    io::write_all(STDOUT_FILENO, text);
-}
-
-pub fn put_decimal(n: u64) {
+pub fn put_decimal<W: Write>(out: &mut W, n: u64) -> io::Result<()> {
     let mut room = [0u8; numbers::DIGITS];
     let length = numbers::put_decimal(n, &mut room, 0);
-    put(&room[..length]);
+    out.write_all(&room[..length])
 }
 
-fn put_hex(byte: u8) {
+fn put_hex<W: Write>(out: &mut W, byte: u8) -> io::Result<()> {
     let pair = numbers::byte(byte);
-    put(&pair);
+    out.write_all(&pair)
 }
 
 // What an entry is, and the value that it holds.
@@ -40,198 +37,195 @@ fn value_of(number: u64) -> u8 {
 }
 
 // The line of a refusal; of an acceptance there is none.
-pub fn put_refusal(reply: Reply) {
+pub fn put_refusal<W: Write>(out: &mut W, reply: Reply) -> io::Result<()> {
     match reply {
-        Reply::Accepted(_) => {}
+        Reply::Accepted(_) => Ok(()),
         Reply::Refused { number, place } => {
-            put(b"refused ");
-            put_decimal(number as u64);
-            put(b" at ");
-            put_decimal(place as u64);
-            put(b"\n");
+            out.write_all(b"refused ")?;
+            put_decimal(out, number as u64)?;
+            out.write_all(b" at ")?;
+            put_decimal(out, place as u64)?;
+            out.write_all(b"\n")
         }
     }
 }
 
 // The heading of one replay of several.
-pub fn put_heading(turn: u32, times: u32) {
+pub fn put_heading<W: Write>(out: &mut W, turn: u32, times: u32) -> io::Result<()> {
     if times > 1 {
-        put(b"replay ");
-        put_decimal(turn as u64);
-        put(b" of ");
-        put_decimal(times as u64);
-        put(b"\n");
+        out.write_all(b"replay ")?;
+        put_decimal(out, turn as u64)?;
+        out.write_all(b" of ")?;
+        put_decimal(out, times as u64)?;
+        out.write_all(b"\n")?;
     }
+    Ok(())
 }
 
 // One byte of the array that changed.
-pub fn put_change(place: usize, old: u8, new: u8) {
-    put(b"array: ");
+pub fn put_change<W: Write>(out: &mut W, place: usize, old: u8, new: u8) -> io::Result<()> {
+    out.write_all(b"array: ")?;
     let digits = numbers::address((place % 65_536) as u16);
-    put(&digits);
-    put(b" ");
-    put_hex(old);
-    put(b" -> ");
-    put_hex(new);
-    put(b"\n");
+    out.write_all(&digits)?;
+    out.write_all(b" ")?;
+    put_hex(out, old)?;
+    out.write_all(b" -> ")?;
+    put_hex(out, new)?;
+    out.write_all(b"\n")
 }
 
 // Ends the line in which the text stands; a byte there had no ninth clock.
-fn put_end(stands: Stands) {
+fn put_end<W: Write>(out: &mut W, stands: Stands) -> io::Result<()> {
     match stands {
-        Stands::AtBeginning => {}
-        Stands::InSample(_) => put(b"\n"),
-        Stands::InByte(number) => reasons::put_broken_off(number),
+        Stands::AtBeginning => Ok(()),
+        Stands::InSample(_) => out.write_all(b"\n"),
+        Stands::InByte(number) => reasons::put_broken_off(out, number),
     }
 }
 
 // Begins the line of a sample, or goes on in it.
-fn put_sample(stands: Stands, place: u64) {
+fn put_sample<W: Write>(out: &mut W, stands: Stands, place: u64) -> io::Result<()> {
     if let Stands::InSample(at) = stands {
         if at == place {
-            put(b", ");
-            return;
+            return out.write_all(b", ");
         }
     }
-    put_end(stands);
-    put(b"sample ");
-    put_decimal(place);
-    put(b": ");
+    put_end(out, stands)?;
+    out.write_all(b"sample ")?;
+    put_decimal(out, place)?;
+    out.write_all(b": ")
 }
 
 // The bits of a byte that a start or a stop cut off. A whole byte has a line of its own.
-fn put_cut(bits: u8) {
+fn put_cut<W: Write>(out: &mut W, bits: u8) -> io::Result<()> {
     if bits == 0 {
-        return;
+        return Ok(());
     }
     if bits == 1 {
-        put(b" after 1 bit of a byte");
-        return;
+        return out.write_all(b" after 1 bit of a byte");
     }
     if bits < 8 {
-        put(b" after ");
-        put_decimal(bits as u64);
-        put(b" bits of a byte");
+        out.write_all(b" after ")?;
+        put_decimal(out, bits as u64)?;
+        out.write_all(b" bits of a byte")?;
     }
+    Ok(())
 }
 
-fn put_event(number: u64) {
+fn put_event<W: Write>(out: &mut W, number: u64) -> io::Result<()> {
     let value = value_of(number);
     match tag_of(number) {
         tags::START => {
-            put(b"start");
-            put_cut(value);
+            out.write_all(b"start")?;
+            put_cut(out, value)
         }
         tags::STOP => {
-            put(b"stop");
-            put_cut(value);
-            reasons::put_cut_off(number);
+            out.write_all(b"stop")?;
+            put_cut(out, value)?;
+            reasons::put_cut_off(out, number)
         }
-        tags::CYCLE_BEGINS => put(b"write cycle begins"),
-        tags::CYCLE_ENDS => put(b"write cycle ends"),
-        tags::RESET_BEGINS => put(b"reset begins"),
-        tags::RESET_ENDS => put(b"reset ends"),
-        _ => put(b"?"),
+        tags::CYCLE_BEGINS => out.write_all(b"write cycle begins"),
+        tags::CYCLE_ENDS => out.write_all(b"write cycle ends"),
+        tags::RESET_BEGINS => out.write_all(b"reset begins"),
+        tags::RESET_ENDS => out.write_all(b"reset ends"),
+        _ => out.write_all(b"?"),
     }
 }
 
 // What happens at a sample. A write cycle that ends within a byte does not break it off.
-fn event(stands: Stands, number: u64) -> Stands {
+fn event<W: Write>(out: &mut W, stands: Stands, number: u64) -> io::Result<Stands> {
     let place = number / tags::PLACE;
     if tag_of(number) == tags::CYCLE_ENDS {
         if let Stands::InByte(_) = stands {
-            put(b"(write cycle ends at sample ");
-            put_decimal(place);
-            put(b") ");
-            return stands;
+            out.write_all(b"(write cycle ends at sample ")?;
+            put_decimal(out, place)?;
+            out.write_all(b") ")?;
+            return Ok(stands);
         }
     }
-    put_sample(stands, place);
-    put_event(number);
-    Stands::InSample(place)
+    put_sample(out, stands, place)?;
+    put_event(out, number)?;
+    Ok(Stands::InSample(place))
 }
 
-fn put_role(tag: u8, value: u8) {
+fn put_role<W: Write>(out: &mut W, tag: u8, value: u8) -> io::Result<()> {
     match tag {
         tags::SLAVE => {
             if value % 2 == 1 {
-                put(b"slave byte, read            ");
-                return;
+                return out.write_all(b"slave byte, read            ");
             }
-            put(b"slave byte, write           ");
+            out.write_all(b"slave byte, write           ")
         }
-        tags::HIGH => put(b"address, high               "),
-        tags::LOW => put(b"address, low                "),
-        tags::DATA => put(b"data                        "),
-        tags::REGISTER => put(b"for the control register    "),
-        tags::SENT => put(b"sent by the part            "),
-        tags::REGISTER_SENT => put(b"register, sent by the part  "),
-        _ => put(b"not heard                   "),
+        tags::HIGH => out.write_all(b"address, high               "),
+        tags::LOW => out.write_all(b"address, low                "),
+        tags::DATA => out.write_all(b"data                        "),
+        tags::REGISTER => out.write_all(b"for the control register    "),
+        tags::SENT => out.write_all(b"sent by the part            "),
+        tags::REGISTER_SENT => out.write_all(b"register, sent by the part  "),
+        _ => out.write_all(b"not heard                   "),
     }
 }
 
 // A byte at its eighth fall.
-fn byte(stands: Stands, number: u64) -> Stands {
+fn byte<W: Write>(out: &mut W, stands: Stands, number: u64) -> io::Result<Stands> {
     let value = value_of(number);
-    put_end(stands);
-    put(b"  ");
-    put_hex(value);
-    put(b"  ");
-    put_role(tag_of(number), value);
-    Stands::InByte(number)
+    put_end(out, stands)?;
+    out.write_all(b"  ")?;
+    put_hex(out, value)?;
+    out.write_all(b"  ")?;
+    put_role(out, tag_of(number), value)?;
+    Ok(Stands::InByte(number))
 }
 
 // The answer of the part to a byte, by its own level and the line's.
-fn put_answer(number: u64, value: u8) {
+fn put_answer<W: Write>(out: &mut W, number: u64, value: u8) -> io::Result<()> {
     match value {
-        0 | 1 => put(b"ACK\n"),
-        2 => reasons::put_no_acknowledge(b"NO ACK, SDA held low from outside", number),
-        _ => reasons::put_no_acknowledge(b"NO ACK", number),
+        0 | 1 => out.write_all(b"ACK\n"),
+        2 => reasons::put_no_acknowledge(out, b"NO ACK, SDA held low from outside", number),
+        _ => reasons::put_no_acknowledge(out, b"NO ACK", number),
     }
 }
 
 // The station's answer to a byte that the part sent, by the line's level.
-fn put_station(value: u8) {
+fn put_station<W: Write>(out: &mut W, value: u8) -> io::Result<()> {
     if value % 2 == 1 {
-        put(b"NO ACK by the station\n");
-        return;
+        return out.write_all(b"NO ACK by the station\n");
     }
-    put(b"ACK by the station\n");
+    out.write_all(b"ACK by the station\n")
 }
 
 // The ninth clock of a byte.
-fn ninth(stands: Stands, value: u8) -> Stands {
+fn ninth<W: Write>(out: &mut W, stands: Stands, value: u8) -> io::Result<Stands> {
     match stands {
         Stands::InByte(number) => match tag_of(number) {
-            tags::SENT | tags::REGISTER_SENT => put_station(value),
-            _ => put_answer(number, value),
+            tags::SENT | tags::REGISTER_SENT => put_station(out, value)?,
+            _ => put_answer(out, number, value)?,
         },
-        Stands::InSample(_) => put(b"\n  ninth clock of a byte that came before\n"),
-        Stands::AtBeginning => put(b"  ninth clock of a byte that came before\n"),
+        Stands::InSample(_) => out.write_all(b"\n  ninth clock of a byte that came before\n")?,
+        Stands::AtBeginning => out.write_all(b"  ninth clock of a byte that came before\n")?,
     }
-    Stands::AtBeginning
+    Ok(Stands::AtBeginning)
 }
 
 // One entry of the list.
-fn put_entry(stands: Stands, number: u64) -> Stands {
+fn put_entry<W: Write>(out: &mut W, stands: Stands, number: u64) -> io::Result<Stands> {
     match tag_of(number) {
-        tags::SLAVE..=tags::UNHEARD => byte(stands, number),
-        tags::NINTH => ninth(stands, value_of(number)),
-        _ => event(stands, number),
+        tags::SLAVE..=tags::UNHEARD => byte(out, stands, number),
+        tags::NINTH => ninth(out, stands, value_of(number)),
+        _ => event(out, stands, number),
     }
 }
 
 // The first entries of a row, one after the other.
-pub fn put_list(entries: &[u64], count: usize) {
+pub fn put_list<W: Write>(out: &mut W, entries: &[u64], count: usize) -> io::Result<()> {
     let mut stands = Stands::AtBeginning;
     let mut i = 0;
     while i < entries.len() {
         if count <= i {
-            put_end(stands);
-            return;
+            return put_end(out, stands);
         }
-        stands = put_entry(stands, entries[i]);
+        stands = put_entry(out, stands, entries[i])?;
         i += 1;
     }
-    put_end(stands);
+    put_end(out, stands)
 }

@@ -1,16 +1,18 @@
 // `tidy [PART]` reads the image of a part on standard input and writes its fixed form to standard output, or one line with its refusal.
 #![tactic(auto)]
 
-use libc::{STDIN_FILENO, STDOUT_FILENO};
+use std::io;
+use std::io::Write;
+use streams::{arguments, reading};
 
 // A word that is longer than its room is read as an empty one, and so is no number.
-fn main() {
-    let given = os::arg_count() > 1;
-    let mut word = io::buffer();
-    let word_length = os::arg(1, &mut word);
+fn main(rt: HostRuntime) -> io::Result<()> {
+    let mut word = arguments::room();
+    let part = arguments::word_at(&rt, 1, &mut word);
     let mut text = tidying::rooms::text_room();
-    let length = io::read_full(STDIN_FILENO, &mut text);
+    let length = reading::read_full(&mut rt.stdin(), &mut text)?;
     let mut out = tidying::rooms::out_room();
-    let written = tidying::by_word(given, &word[..word_length], &text[..length], &mut out);
-    io::write_all(STDOUT_FILENO, &out[..written]);
+    let word_length = part.length;
+    let written = tidying::by_word(part.given, &word[..word_length], &text[..length], &mut out);
+    rt.stdout().write_all(&out[..written])
 }

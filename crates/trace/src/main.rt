@@ -7,47 +7,56 @@ mod printing;
 use drawing::Drawn;
 use form::headers::Header;
 use form::{fields, headers, words};
-use libc::STDIN_FILENO;
 use part::state::State;
 use rooms::Lengths;
+use std::io;
+use std::io::{Read, Write};
+use streams::reading;
 use twin::Reply;
 
-// Fills a row from the input, and answers whether there was enough of it.
-fn fill(row: &mut [u8]) -> bool {
-    let got = io::read_full(STDIN_FILENO, row);
-    got == row.len()
-}
-
 // One sample: its lines.
-fn draw_one(drawn: Drawn, elapsed: u32, level: u8, answer: u8) -> Drawn {
+fn draw_one<W: Write>(
+    out: &mut W,
+    drawn: Drawn,
+    elapsed: u32,
+    level: u8,
+    answer: u8,
+) -> io::Result<Drawn> {
     let mut room = [0u8; drawing::ROOM];
     let put = drawing::put_sample(drawn, elapsed, level, answer, &mut room);
     let length = put.length;
-    printing::put(&room[..length]);
-    put.drawn
+    out.write_all(&room[..length])?;
+    Ok(put.drawn)
 }
 
 // The samples of one replay, one after the other; the rows of an accepted one are of one length.
-fn draw(drawn: Drawn, elapsed: &[u32], levels: &[u8], answers: &[u8]) -> Drawn {
+fn draw<W: Write>(
+    out: &mut W,
+    drawn: Drawn,
+    elapsed: &[u32],
+    levels: &[u8],
+    answers: &[u8],
+) -> io::Result<Drawn> {
     let mut last = drawn;
     let mut i = 0;
     while i < levels.len() {
         if elapsed.len() <= i {
-            return last;
+            return Ok(last);
         }
         if answers.len() <= i {
-            return last;
+            return Ok(last);
         }
-        last = draw_one(last, elapsed[i], levels[i], answers[i]);
+        last = draw_one(out, last, elapsed[i], levels[i], answers[i])?;
         i += 1;
     }
-    last
+    Ok(last)
 }
 
 // The replays after the first, each from the state and array that the one before left, and drawn
 // behind it. The rows are refused the first time or never: a run leaves every field of the state
 // within its range (ranges/proofs/InRange, run-fit).
-fn draw_more(
+fn draw_more<W: Write>(
+    out: &mut W,
     times: u32,
     state: State,
     drawn: Drawn,
@@ -55,7 +64,7 @@ fn draw_more(
     levels: &[u8],
     array: &mut [u8],
     answers: &mut [u8],
-) {
+) -> io::Result<()> {
     let mut now = state;
     let mut last = drawn;
     let mut done = 1;
@@ -63,31 +72,33 @@ fn draw_more(
         done += 1;
         let replayed = twin::replay(now, elapsed, levels, array, answers);
         now = replayed.state;
-        last = draw(last, elapsed, levels, answers);
+        last = draw(out, last, elapsed, levels, answers)?;
     }
+    Ok(())
 }
 
 // So many replays, 0 counting as 1: the whole dump, or the line of a refusal.
-fn trace_times(
+fn trace_times<W: Write>(
+    out: &mut W,
     times: u32,
     state: State,
     elapsed: &[u32],
     levels: &[u8],
     array: &mut [u8],
     answers: &mut [u8],
-) {
+) -> io::Result<()> {
     let replayed = twin::replay(state, elapsed, levels, array, answers);
     let reply = replayed.reply;
     let Reply::Accepted(_) = reply else {
-        printing::put_refusal(reply);
-        return;
+        return printing::put_refusal(out, reply);
     };
     let header = drawing::header();
-    printing::put(&header);
+    out.write_all(&header)?;
     let device = state.device;
     let talk = device.talk;
-    let drawn = draw(drawing::nothing(talk.own), elapsed, levels, answers);
+    let drawn = draw(out, drawing::nothing(talk.own), elapsed, levels, answers)?;
     draw_more(
+        out,
         times,
         replayed.state,
         drawn,
@@ -95,61 +106,65 @@ fn trace_times(
         levels,
         array,
         answers,
-    );
+    )
 }
 
 // Powers a part up as the header says, and traces the case.
-fn trace_case(
+fn trace_case<W: Write>(
+    out: &mut W,
     header: Header,
     elapsed: &[u32],
     levels: &[u8],
     array: &mut [u8],
     answers: &mut [u8],
-) {
+) -> io::Result<()> {
     let part = fields::narrow16(header.part);
     let select = fields::narrow8(header.select);
     let stored = fields::narrow8(header.stored);
     let up = twin::power_up(part, select, stored);
     let powered = up.reply;
     let Reply::Accepted(_) = powered else {
-        printing::put_refusal(powered);
-        return;
+        return printing::put_refusal(out, powered);
     };
     let state = headers::state_of(header, up.state);
-    trace_times(header.times, state, elapsed, levels, array, answers);
+    trace_times(out, header.times, state, elapsed, levels, array, answers)
 }
 
 // Reads the rows of the case, each lent at just its length and in the order in which the input has
 // them, and traces it; false where the input ends before they do.
-fn trace_rows(
+fn trace_rows<R: Read, W: Write>(
+    input: &mut R,
+    out: &mut W,
     header: Header,
     array: &mut [u8],
     raw: &mut [u8],
     elapsed: &mut [u32],
     levels: &mut [u8],
     answers: &mut [u8],
-) -> bool {
-    if fill(array) {
-        if fill(raw) {
-            if fill(levels) {
+) -> io::Result<bool> {
+    if reading::fill(input, array)? {
+        if reading::fill(input, raw)? {
+            if reading::fill(input, levels)? {
                 words::decode(raw, elapsed);
-                trace_case(header, elapsed, levels, array, answers);
-                return true;
+                trace_case(out, header, elapsed, levels, array, answers)?;
+                return Ok(true);
             }
         }
     }
-    false
+    Ok(false)
 }
 
 // Lends as much of each buffer as the case asks for; a case that asks for more is not taken.
-fn lend(
+fn lend<R: Read, W: Write>(
+    input: &mut R,
+    out: &mut W,
     header: Header,
     array: &mut [u8],
     raw: &mut [u8],
     elapsed: &mut [u32],
     levels: &mut [u8],
     answers: &mut [u8],
-) -> bool {
+) -> io::Result<bool> {
     let case = rooms::asked(header);
     let room = Lengths {
         array: array.len(),
@@ -160,6 +175,8 @@ fn lend(
     };
     if rooms::fits(case, room) {
         return trace_rows(
+            input,
+            out,
             header,
             &mut array[..case.array],
             &mut raw[..case.raw],
@@ -168,17 +185,19 @@ fn lend(
             &mut answers[..case.answers],
         );
     }
-    false
+    Ok(false)
 }
 
 // Traces the case of a whole header; false where its rows are cut off or too long.
-fn trace(header: Header) -> bool {
+fn trace<R: Read, W: Write>(input: &mut R, out: &mut W, header: Header) -> io::Result<bool> {
     let mut array = rooms::array_room();
     let mut raw = rooms::raw_room();
     let mut elapsed = rooms::elapsed_room();
     let mut levels = rooms::row_room();
     let mut answers = rooms::row_room();
     lend(
+        input,
+        out,
         header,
         &mut array,
         &mut raw,
@@ -189,35 +208,36 @@ fn trace(header: Header) -> bool {
 }
 
 // Sixteen words of a header from the input; false where there are not as many.
-fn fill_words(row: &mut [u32; 16]) -> bool {
+fn fill_words<R: Read>(input: &mut R, row: &mut [u32; 16]) -> io::Result<bool> {
     let mut bytes = [0u8; 64];
-    if fill(&mut bytes) {
+    if reading::fill(input, &mut bytes)? {
         words::decode(&bytes, row);
-        return true;
+        return Ok(true);
     }
-    false
+    Ok(false)
 }
 
 // Traces the one case that is read; false where it is cut off or too long.
-fn trace_one() -> bool {
+fn trace_one<R: Read, W: Write>(input: &mut R, out: &mut W) -> io::Result<bool> {
     let mut first = [0u32; 16];
-    if fill_words(&mut first) {
+    if fill_words(input, &mut first)? {
         let header = headers::header_of(&first);
         if header.long {
             let mut further = [0u32; 16];
-            if fill_words(&mut further) {
-                return trace(headers::longer(header, &further));
+            if fill_words(input, &mut further)? {
+                return trace(input, out, headers::longer(header, &further));
             }
-            return false;
+            return Ok(false);
         }
-        return trace(header);
+        return trace(input, out, header);
     }
-    false
+    Ok(false)
 }
 
-fn main() {
-    if trace_one() {
-        return;
+fn main(rt: HostRuntime) -> io::Result<()> {
+    let mut out = rt.stdout();
+    if trace_one(&mut rt.stdin(), &mut out)? {
+        return Ok(());
     }
-    printing::put(b"no whole case: it is cut off, or longer than docs/BENCH.md allows\n");
+    out.write_all(b"no whole case: it is cut off, or longer than docs/BENCH.md allows\n")
 }

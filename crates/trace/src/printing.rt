@@ -1,28 +1,25 @@
 // What is written to standard output.
-use libc::STDOUT_FILENO;
+use std::io;
+use std::io::Write;
 use texts::numbers;
 use twin::Reply;
 
-pub fn put(text: &[u8]) {
-    io::write_all(STDOUT_FILENO, text);
-}
-
-fn put_decimal(n: u64) {
+fn put_decimal<W: Write>(out: &mut W, n: u64) -> io::Result<()> {
     let mut room = [0u8; numbers::DIGITS];
     let length = numbers::put_decimal(n, &mut room, 0);
-    put(&room[..length]);
+    out.write_all(&room[..length])
 }
 
 // The line of a refusal, as `show` has it; of an acceptance there is none.
-pub fn put_refusal(reply: Reply) {
+pub fn put_refusal<W: Write>(out: &mut W, reply: Reply) -> io::Result<()> {
     match reply {
-        Reply::Accepted(_) => {}
+        Reply::Accepted(_) => Ok(()),
         Reply::Refused { number, place } => {
-            put(b"refused ");
-            put_decimal(number as u64);
-            put(b" at ");
-            put_decimal(place as u64);
-            put(b"\n");
+            out.write_all(b"refused ")?;
+            put_decimal(out, number as u64)?;
+            out.write_all(b" at ")?;
+            put_decimal(out, place as u64)?;
+            out.write_all(b"\n")
         }
     }
 }
