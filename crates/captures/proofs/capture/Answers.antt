@@ -8,5 +8,4 @@ returns-in_default c = captures-none _ _ _ _ _ _ _ _ c.power_up-powered.ensures 
 pub returns : goal.returns
 returns c =
     let powered = c.power_up-powered in
-    let accepts = c.enum_told-1 in
     captures-all _ _ _ _ _ _ _ _ powered.ensures _ _ _ _ c.in-Accepted.is c.replay-replayed.ensures

@@ -17,7 +17,7 @@ loop-left-preserved c =
     let at = c.loop-left in
     let call = c.replay-last-in-loop-left in (
       call.auto.array ∙ at.invariant.0,
-      call.auto.answers.0 ∙ at.invariant.1,
+      call.auto.answers ∙ at.invariant.1,
       again-turn at.left _ _ (round_of at.last at.array at.answers) _ c.loop-left-test.true (once _ _ _ _ _ _ _ _ call.ensures) ∙ at.invariant.2,
     )
 
@@ -25,7 +25,7 @@ pub shape_of-array : goal.shape_of-array
 shape_of-array c = c.loop-left.invariant.0 ∙ c.replay-last.auto.array
 
 pub shape_of-answers : goal.shape_of-answers
-shape_of-answers c = c.loop-left.invariant.1 ∙ c.replay-last.auto.answers.0
+shape_of-answers c = c.loop-left.invariant.1 ∙ c.replay-last.auto.answers
 
 pub returns : goal.returns
 unfolding times_of
