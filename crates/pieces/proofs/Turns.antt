@@ -7,7 +7,6 @@ use lib.ListN.{take, drop}
 use Rattle.tokens.specs.Tokens.{words_of, tokens_from}
 use Rattle.tokens.specs.Parts.{FindsWord}
 use Rattle.tokens.proofs.TokenLaws.{words-found, words-none}
-use Rattle.sections.specs.declared.Keyword.TheVariants as keyword
 use Rattle.sections.specs.declared.Place.TheVariants as place
 use Rattle.sections.specs.Sections.{Says}
 use Rattle.wires.specs.Wires.{laid}
