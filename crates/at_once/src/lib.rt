@@ -113,7 +113,7 @@ fn on_copy(
     requires copy_len { length copy.old ≡ length array.old }
     ensures { Tries dump.now powered array.old places.old result array.new places.new }
 {
-    bytes::copy(array, copy);
+    copy.copy_from_slice(array);
     let mut elapsed = [0u32; PIECE];
     let mut levels = [0u8; PIECE];
     let mut answers = [0u8; PIECE];

@@ -75,6 +75,6 @@ pub fn bring_out(
     if !lay_out(room, found, places) {
         return false;
     }
-    bytes::copy(copy, array);
+    array.copy_from_slice(copy);
     true
 }

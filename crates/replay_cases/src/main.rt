@@ -4,42 +4,53 @@
 
 ghost use Rattle.std.specs.Prelude.{◌+◌, ◌≤◌};
 
-use libc::STDOUT_FILENO;
 use replayed::given;
+use std::env::Env;
+use std::fs::Files;
+use std::io;
+use std::io::Write;
+use streams::arguments;
 
-// One case from a position on; false where a file of it cannot be read or nothing can be written.
-fn take_case(position: usize) -> bool
+// One case from a position on; false where a word of it is not there, or a file of it cannot be read.
+fn take_case<R: Env + Files, W: Write, E: Write>(
+    rt: &R,
+    out: &mut W,
+    errors: &mut E,
+    position: usize,
+) -> io::Result<bool>
     requires { position + 4 ≤ 18446744073709551615 }
 {
-    let mut dump_name = io::buffer();
-    let dump_length = os::arg(position, &mut dump_name);
-    let mut image_name = io::buffer();
-    let image_length = os::arg(position + 1, &mut image_name);
-    let is_written = io::write_all(STDOUT_FILENO, b"== ")
-        && io::write_all(STDOUT_FILENO, &dump_name[..dump_length])
-        && io::write_all(STDOUT_FILENO, b"\n");
-    if !is_written {
-        return false;
+    if !arguments::is_given(rt, position + 4) {
+        return Ok(false);
     }
+    let mut dump_room = arguments::room();
+    let dump = arguments::word_at(rt, position, &mut dump_room);
+    let mut image_room = arguments::room();
+    let image = arguments::word_at(rt, position + 1, &mut image_room);
+    let dump_length = dump.length;
+    let image_length = image.length;
+    out.write_all(b"== ")?;
+    out.write_all(&dump_room[..dump_length])?;
+    out.write_all(b"\n")?;
     replayed::replay(
-        &dump_name[..dump_length],
-        &image_name[..image_length],
-        given::part_at(position + 2),
-        given::byte_at(position + 3),
-        given::byte_at(position + 4),
+        rt,
+        out,
+        errors,
+        &dump_room[..dump_length],
+        &image_room[..image_length],
+        given::part_at(rt, position + 2),
+        given::byte_at(rt, position + 3),
+        given::byte_at(rt, position + 4),
     )
 }
 
-fn main() {
-    let count = os::arg_count();
-    if count < 6 {
-        return;
+fn main(rt: HostRuntime) -> io::Result<()> {
+    let mut out = rt.stdout();
+    let mut errors = rt.stderr();
+    for case in 0..usize::MAX / 8 {
+        if !take_case(&rt, &mut out, &mut errors, 5 * case + 1)? {
+            break;
+        }
     }
-    let last = count - 5;
-    let mut position = 1;
-    let mut goes_on = true;
-    while position <= last && goes_on {
-        goes_on = take_case(position);
-        position += 5;
-    }
+    Ok(())
 }

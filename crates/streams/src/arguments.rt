@@ -45,3 +45,10 @@ pub fn word_at<R: Env>(rt: &R, position: usize, room: &mut [u8]) -> Word
         },
     }
 }
+
+// Whether there is a word at a position.
+pub fn is_given<R: Env>(rt: &R, position: usize) -> bool {
+    let mut room = room();
+    let word = word_at(rt, position, &mut room);
+    word.given
+}
