@@ -1,0 +1,72 @@
+-- `judging::pass_plain` meets its contract. The loop's invariant: the same is kept at the place reached. Assumes nothing.
+use mathlib.Core.Path.{refl}
+use native.Mathlib.Omega.{arith}
+use Rattle.glances.proofs.SeenPast.{seen_value}
+use Rattle.judging.proofs.PlainLaws.{passing-small, passing-value, passing-inside, passing-further, passing-time, passed}
+use Rattle.judging.proofs.pass_plain.Goals as goal
+
+pub loop-at-init : goal.loop-at-init
+loop-at-init c = record { further = omega arith; two = c.requires.le_lines; kept = c.requires.kept }
+
+pub overflow_sub-dump : goal.overflow_sub-dump
+overflow_sub-dump c = omega (arith, c.loop-at.invariant.kept.inside)
+
+pub past_blank-past-requires : goal.past_blank-past-requires
+past_blank-past-requires c = record { at_in_bounds = omega (arith, c.if-dump-at-lt-FAR.false); line_le_at = c.loop-at.invariant.kept.small }
+
+pub bounds-dump-begins : goal.bounds-dump-begins
+bounds-dump-begins c = omega (arith, c.past_blank-past.ensures.near, c.if-dump-at-lt-FAR.false)
+
+pub marks_at-requires : goal.marks_at-requires
+marks_at-requires c =
+    record { tabled = c.requires.tabled; from_in_bounds = omega (arith, c.past_blank-past.ensures.near, c.if-dump-at-lt-FAR.false); from_value = c.if-first-eq-ZERO_OR_ONE.true }
+
+pub overflow_add-at : goal.overflow_add-at
+overflow_add-at c = omega (arith, c.past_blank-past.ensures.near, c.if-dump-at-lt-FAR.false, c.well_formed.0.1)
+
+pub loop-at-smaller-then-first-eq-ZERO_OR_ONE : goal.loop-at-smaller-then-first-eq-ZERO_OR_ONE
+loop-at-smaller-then-first-eq-ZERO_OR_ONE c = omega (arith, c.past_blank-past.ensures.from, c.past_blank-past.ensures.near, c.if-dump-at-lt-FAR.false)
+
+pub loop-at-preserved-then-first-eq-ZERO_OR_ONE : goal.loop-at-preserved-then-first-eq-ZERO_OR_ONE
+loop-at-preserved-then-first-eq-ZERO_OR_ONE c =
+    passing-value _ _ _ _ _ _ _ _ c.loop-at.invariant _ _ _ _
+    (seen_value _ _ _ _ c.past_blank-past.ensures _ c.marks_at.ensures c.if-marks_at-eq0.false) c.if-first-eq-ZERO_OR_ONE.true c.requires.given_value
+
+pub time_at-seen-requires : goal.time_at-seen-requires
+time_at-seen-requires c =
+    record { from_in_bounds = omega (arith, c.past_blank-past.ensures.near, c.if-dump-at-lt-FAR.false); from_value = c.if-first-ne-HASH.false }
+
+pub overflow_add-at-else-first-eq-ZERO_OR_ONE : goal.overflow_add-at-else-first-eq-ZERO_OR_ONE
+overflow_add-at-else-first-eq-ZERO_OR_ONE c =
+    let i = passing-inside _ _ _ _ _ _ _ _ c.loop-at.invariant _ _ c.past_blank-past.ensures c.time_at-seen.ensures c.if-now-time.false in
+    omega (arith, i, c.well_formed.0.1)
+
+pub overflow_add-lines : goal.overflow_add-lines
+overflow_add-lines c = omega (arith, (passing-small _ _ _ _ _ _ _ _ c.loop-at.invariant (omega (arith, c.well_formed.0.1))).0)
+
+pub overflow_add-samples : goal.overflow_add-samples
+overflow_add-samples c = omega (arith, (passing-small _ _ _ _ _ _ _ _ c.loop-at.invariant (omega (arith, c.well_formed.0.1))).1)
+
+pub loop-at-smaller : goal.loop-at-smaller
+loop-at-smaller c =
+    let f = passing-further _ _ _ _ _ _ _ _ c.loop-at.invariant _ _ c.past_blank-past.ensures c.time_at-seen.ensures c.if-now-time.false in
+    omega (arith, f, c.if-dump-at-lt-FAR.false)
+
+pub loop-at-preserved : goal.loop-at-preserved
+loop-at-preserved c =
+    passing-time _ _ _ _ _ _ _ _ c.loop-at.invariant _ _ c.past_blank-past.ensures c.time_at-seen.ensures c.if-now-time.false c.if-now-time-gt-MOST_ELAPSED.false
+
+pub returns-then-dump-at-lt-FAR : goal.returns-then-dump-at-lt-FAR
+returns-then-dump-at-lt-FAR c = passed _ _ _ _ _ _ _ _ c.loop-at.invariant _ refl
+
+pub returns-then-marks_at-eq0 : goal.returns-then-marks_at-eq0
+returns-then-marks_at-eq0 c = passed _ _ _ _ _ _ _ _ c.loop-at.invariant _ refl
+
+pub returns-then-first-ne-HASH : goal.returns-then-first-ne-HASH
+returns-then-first-ne-HASH c = passed _ _ _ _ _ _ _ _ c.loop-at.invariant _ refl
+
+pub returns-then-now-time : goal.returns-then-now-time
+returns-then-now-time c = passed _ _ _ _ _ _ _ _ c.loop-at.invariant _ refl
+
+pub returns-then-now-time-gt-MOST_ELAPSED : goal.returns-then-now-time-gt-MOST_ELAPSED
+returns-then-now-time-gt-MOST_ELAPSED c = passed _ _ _ _ _ _ _ _ c.loop-at.invariant _ refl
