@@ -1,14 +1,13 @@
 // The twin, its dumps and the images for other languages, over numbers and slices; include/qillampu.h declares the four
-// functions for C. None has a `requires`, and each says for every input its answer, the reply row and what each
-// lent row holds at the end.
+// functions for C, and the crate door_c exports them. None has a `requires`, and each says for every input its answer, the
+// reply row and what each lent row holds at the end.
 #![tactic(auto)]
 
 ghost use Rattle.telling.specs.Told.{ReadsThrough, WritesThrough};
 ghost use Rattle.door.specs.Promises.{ReplaysOnce, ReplaysDump};
 
 // Power-up and the replay of one capture.
-#[unsafe(no_mangle)]
-pub extern "C" fn qillampu_replay(
+pub fn qillampu_replay(
     part: u16,
     select: u8,
     stored: u8,
@@ -31,8 +30,7 @@ pub extern "C" fn qillampu_replay(
 }
 
 // Power-up and the replay of a whole dump: the places where it and the twin disagree.
-#[unsafe(no_mangle)]
-pub extern "C" fn qillampu_replay_dump(
+pub fn qillampu_replay_dump(
     part: u16,
     select: u8,
     stored: u8,
@@ -54,26 +52,14 @@ pub extern "C" fn qillampu_replay_dump(
 }
 
 // Reads an image into the array of a part.
-#[unsafe(no_mangle)]
-pub extern "C" fn qillampu_read_image(
-    part: u16,
-    text: &[u8],
-    array: &mut [u8],
-    reply: &mut [u64],
-) -> u8
+pub fn qillampu_read_image(part: u16, text: &[u8], array: &mut [u8], reply: &mut [u64]) -> u8
     ensures { ReadsThrough part text.now array.old reply.old result array.new reply.new }
 {
     telling::read_image(part, text, array, reply)
 }
 
 // Writes the image of a part's array at the start of `out`.
-#[unsafe(no_mangle)]
-pub extern "C" fn qillampu_write_image(
-    part: u16,
-    array: &[u8],
-    out: &mut [u8],
-    reply: &mut [u64],
-) -> u8
+pub fn qillampu_write_image(part: u16, array: &[u8], out: &mut [u8], reply: &mut [u64]) -> u8
     ensures { WritesThrough part array.now out.old reply.old result out.new reply.new }
 {
     telling::write_image(part, array, out, reply)
