@@ -55,12 +55,12 @@ copied xs ys h = rw (take-length xs, drop_of_length-le ys {i = length xs} (omega
 
 -- What is brought out or left.
 pub brings-out : (room : List ℕ) (found : ℕ) (copy array row : List ℕ) (done : Bool) (array' row' : List ℕ) → length copy ≡ length array
-    → LaysOut room found row row' done → not done ≡ false → array' ≡ take (length copy) copy ++ drop (length copy) array
+    → LaysOut room found row row' done → not done ≡ false → array' ≡ copy
     → BringsOut room found copy array row true array' row'
 brings-out room found copy array row done array' row' h l d e =
     record {
       laid = subst (LaysOut room found row row') (not-failed done d) l;
-      brought = λ z. e ∙ copied copy array (sym h);
+      brought = λ z. e;
       kept = λ z. absurd (true≢false z);
     }
 

@@ -1,5 +1,5 @@
 -- The places where a dump and the twin disagree, and the verdict on a report (request 2026-03, reports every sample).
-use Rattle.std.specs.Prelude.{ℕ, suc, ◌+◌, Bool, true, false, not, ◌&&◌, List, [], ◌∷◌, ◌++◌, eqb, length, take, drop}
+use Rattle.std.specs.Prelude.{ℕ, suc, Bool, true, false, not, ◌&&◌, List, [], ◌∷◌, ◌++◌, eqb, length, take, drop}
 use Rattle.ground.specs.Cases.{odd}
 use Rattle.ground.specs.Kind.{kind_of}
 use Rattle.ground.specs.Verdict.{Verdict, accepted, refused}
