@@ -1,7 +1,7 @@
 /* Powers up an X4323, sends it a slave byte, and reads an image of it and one of an X4283; all through the proved
  * functions. From the repository's root, with a C compiler for x86-64:
  *
- *   rt staticlib door
+ *   tools/archive
  *   cc -std=c99 -Iinclude include/example.c target/staticlib/libdoor.a -o target/example && target/example
  *
  * It prints:
