@@ -1,6 +1,6 @@
 -- Laws of what is copied: an array and its copy, and places brought from a room into a row. Assumes nothing.
 use Prim.Native.Nat.{ℕ, min, ◌≤◌}
-use mathlib.Core.Bool.{Bool, true, false, not, true≢false}
+use mathlib.Core.Bool.{Bool, true, false, true≢false}
 use mathlib.Core.List.{List, ◌++◌}
 use mathlib.Core.Path.{◌≡◌, refl, ap, sym, subst, ◌∙◌}
 use native.Mathlib.Omega.{arith}
@@ -8,7 +8,6 @@ use lib.Dec.{leb}
 use lib.ListN.{length, take, drop, length-take, drop_of_length-le}
 use lib.Seq.{take-length, take_all, take-take, take-append-le}
 use borrow.Author.Tests.{leb-true, leb-false}
-use Rattle.ground.proofs.Tests.{not-failed}
 use Rattle.part.specs.Bench.{part_of}
 use Rattle.part.specs.declared.state.State.{State}
 use Rattle.sample.specs.Run.{Part}
@@ -18,7 +17,6 @@ use Rattle.one_reading.specs.declared.Track.{Track}
 use Rattle.at_once.specs.declared.Ended.{Ended}
 use Rattle.at_once.specs.Promises.{Ready, Whole, Passes, Tries}
 use Rattle.places.specs.Parts.{LaysOut, BringsOut}
-use Rattle.places.proofs.Laying.{copied}
 
 -- As many places as there are and as a row wants are those that are laid over it.
 wanted : (ps row : List ℕ) (n : ℕ) → n ≡ min (length ps) (length row) → take n ps ++ drop n row ≡ laid_over ps row
@@ -65,26 +63,23 @@ tries-undone dump s array row r array' row' e a b =
     record { whole = λ h. absurd (true≢false (sym h ∙ f)); kept = λ h. a; laid = λ h. b }
 
 module _ (dump : List ℕ) (s : State) (array copy copy₁ : List ℕ) (l : length copy ≡ length array)
-    (e : copy₁ ≡ take (length array) array ++ drop (length array) copy) where
-  same : copy₁ ≡ array
-  same = e ∙ copied array copy l
-
+    (same : copy₁ ≡ array) where
   -- What is ready with an array is so with a copy of it.
   pub ready-copied : (table : List ℕ) (t : Track) → Ready dump table t s array → Ready dump table t s copy₁
   ready-copied table t g = rw same g
 
   -- A reading on a copy that ended sound, with copy and places brought out.
   pub tries-done : (room₀ : List ℕ) (r : Ended) (copy₂ room : List ℕ) → Passes dump (part_of s copy₁) room₀ r copy₂ room
-      → not r.sound ≡ false → length room ≡ length room₀
-      → (row : List ℕ) (done : Bool) (array' row' : List ℕ) → BringsOut room r.found copy₂ array row done array' row' → not done ≡ false
+      → r.sound ≡ true → length room ≡ length room₀
+      → (row : List ℕ) (done : Bool) (array' row' : List ℕ) → BringsOut room r.found copy₂ array row done array' row' → done ≡ true
       → Tries dump s array row r array' row'
   tries-done room₀ r copy₂ room x h n row done array' row' o d =
-      let sound = not-failed r.sound h in
+      let sound = h in
       let w : Whole dump (part_of s array) room₀ r.found copy₂ room =
       subst (λ (z : List ℕ). Whole dump (part_of s z) room₀ r.found copy₂ room) same (x.whole sound)
       in
-      let k : array' ≡ copy₂ = o.brought (not-failed done d) in
-      let v = whole_out dump (part_of s array) room₀ r.found copy₂ room row row' done w n o.laid (not-failed done d) in
+      let k : array' ≡ copy₂ = o.brought d in
+      let v = whole_out dump (part_of s array) room₀ r.found copy₂ room row row' done w n o.laid d in
       record {
         whole = λ z. subst (λ (q : List ℕ). Whole dump (part_of s array) row r.found q row') (sym k) v;
         kept = λ z. absurd (true≢false (sym sound ∙ z));
