@@ -1,0 +1,35 @@
+-- Each part that is lent lies within its buffer.
+use Rattle.std.proofs.Common.{sym}
+use lib.Seq.{length-take-le}
+use Rattle.rooms.proofs.Fitting.{fits_all}
+use Rattle.bench.proofs.lend.Goals as goal
+
+pub slice_bounds-reply-end : goal.slice_bounds-reply-end
+slice_bounds-reply-end g c = (fits_all _ _ c.fits.ensures c.if-fits.true).array
+
+pub slice_bounds-reply-end-then-fits : goal.slice_bounds-reply-end-then-fits
+slice_bounds-reply-end-then-fits g c = sym (length-take-le _ _ (fits_all _ _ c.fits.ensures c.if-fits.true).array)
+
+pub slice_bounds-reply-end-then-fits-2 : goal.slice_bounds-reply-end-then-fits-2
+slice_bounds-reply-end-then-fits-2 g c = (fits_all _ _ c.fits.ensures c.if-fits.true).raw
+
+pub slice_bounds-reply-end-then-fits-3 : goal.slice_bounds-reply-end-then-fits-3
+slice_bounds-reply-end-then-fits-3 g c = sym (length-take-le _ _ (fits_all _ _ c.fits.ensures c.if-fits.true).raw)
+
+pub slice_bounds-reply-end-then-fits-4 : goal.slice_bounds-reply-end-then-fits-4
+slice_bounds-reply-end-then-fits-4 g c = (fits_all _ _ c.fits.ensures c.if-fits.true).elapsed
+
+pub slice_bounds-reply-end-then-fits-5 : goal.slice_bounds-reply-end-then-fits-5
+slice_bounds-reply-end-then-fits-5 g c = sym (length-take-le _ _ (fits_all _ _ c.fits.ensures c.if-fits.true).elapsed)
+
+pub slice_bounds-reply-end-then-fits-6 : goal.slice_bounds-reply-end-then-fits-6
+slice_bounds-reply-end-then-fits-6 g c = (fits_all _ _ c.fits.ensures c.if-fits.true).levels
+
+pub slice_bounds-reply-end-then-fits-7 : goal.slice_bounds-reply-end-then-fits-7
+slice_bounds-reply-end-then-fits-7 g c = sym (length-take-le _ _ (fits_all _ _ c.fits.ensures c.if-fits.true).levels)
+
+pub slice_bounds-reply-end-then-fits-8 : goal.slice_bounds-reply-end-then-fits-8
+slice_bounds-reply-end-then-fits-8 g c = (fits_all _ _ c.fits.ensures c.if-fits.true).answers
+
+pub slice_bounds-reply-end-then-fits-9 : goal.slice_bounds-reply-end-then-fits-9
+slice_bounds-reply-end-then-fits-9 g c = sym (length-take-le _ _ (fits_all _ _ c.fits.ensures c.if-fits.true).answers)
