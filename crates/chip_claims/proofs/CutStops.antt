@@ -1,7 +1,7 @@
 -- What a stop does, cut or not. Assumes nothing.
 use Prim.Native.Nat.{ℕ}
 use mathlib.Core.Bool.{Bool, true, false, true≢false}
-use mathlib.Core.Path.{◌≡◌, refl, ap, sym, ◌∙◌}
+use mathlib.Core.Path.{◌≡◌, refl, ap, ◌∙◌}
 use native.Mathlib.Omega.{arith}
 use borrow.Author.Tests.{lt-ltb}
 use Rattle.page.specs.Page.{empty_load}
@@ -14,7 +14,7 @@ use Rattle.wire.specs.declared.Sign.{Sign}
 use Rattle.wire.specs.declared.Sign.TheVariants.{Stop}
 use Rattle.ends.specs.Ends.{cuts_off, dropped, ended_of}
 use Rattle.levels.specs.Level.{wp_of, vcc_of}
-use Rattle.sample.specs.Sample.{latched_by, opens_of, wired_of, stop_of, left_of, saved_of, sign_in, Seen, unseen, sees, seen_by, seen_of, step_of, array_of}
+use Rattle.sample.specs.Sample.{latched_by, opens_of, wired_of, stop_of, saved_of, sign_in, sees, seen_by, seen_of, step_of, array_of}
 use Rattle.sample.specs.Run.{Part, part_step}
 use Rattle.sample.proofs.Stops.{cut-stop, cut-saved, whole-left}
 use Rattle.chip_claims.specs.CutStops.{Cancelled, WhichCut, CutStops}

@@ -3,7 +3,7 @@ use Prim.Native.Nat.{ℕ, ◌%◌, ◌<◌, ◌≤◌}
 use mathlib.Core.Bool.{Bool, true, false}
 use mathlib.Core.Path.{◌≡◌, refl}
 use native.Mathlib.Omega.{arith}
-use lib.Dec.{eqb, ltb}
+use lib.Dec.{eqb}
 use borrow.Author.Tests.{ltb-true}
 use Rattle.ground.specs.Numbers.{x4323, x4325, x4283, x4285, large_size, page_size}
 use Rattle.ground.specs.Kind.{kind_by, kind_of, known}

@@ -1,7 +1,7 @@
 -- Worked cases of a stop inside a byte, each computed. No axiom is used.
 use mathlib.Core.Path.{refl}
 use Rattle.runs.proofs.Opened.{opened}
-use Rattle.talk_cases.specs.CutCases.{PageCut, S29, S30}
+use Rattle.talk_cases.specs.CutCases.{S29, S30}
 
 -- S29: a page write, for a smaller and a larger part, RESET low and high.
 pub s29 : S29 4323 4096 3 7 × S29 4285 16384 1 5

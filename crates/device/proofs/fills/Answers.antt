@@ -1,6 +1,4 @@
 -- `device::fills` meets its contract.
-use mathlib.Core.List.{[], ◌∷◌}
-use types.Run.{miss}
 use Rattle.device.proofs.Phases.{kept-stays, kept-data}
 use Rattle.device.proofs.fills.Goals as goal
 

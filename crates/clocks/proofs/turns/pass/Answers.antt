@@ -1,22 +1,14 @@
 -- `clocks::turns::pass` meets its contract: whatever stood before it stands after each sample.
 use Prim.Native.Nat.{ℕ, ◌+◌, ◌<◌, ◌≤◌}
-use mathlib.Core.Bool.{Bool}
-use mathlib.Core.List.{List, [], ◌∷◌}
+use mathlib.Core.List.{List}
 use mathlib.Core.Path.{◌≡◌, refl, ◌∙◌}
 use native.Mathlib.Omega.{arith}
 use native.Mathlib.Nat.{le_refl}
 use borrow.Author.Rules.{scaled_Fits}
-use types.Run.{miss}
-use lib.ListN.{length, get_or}
-use Rattle.part.specs.declared.state.Device.{Device}
-use Rattle.part.specs.declared.state.Load.{Load}
-use Rattle.part.specs.declared.state.State.{State}
-use Rattle.address.specs.Talk.{sends_in}
+use lib.ListN.{get_or}
 use Rattle.clocks.specs.Clocks.{turn_of}
-use Rattle.clocks.specs.Stands.{Stands}
 use Rattle.clocks.specs.declared.turns.Clocks.{Clocks}
 use Rattle.clocks.specs.declared.turns.Turn.{Turn}
-use Rattle.clocks.specs.declared.rooms.Times.{Times}
 use Rattle.clocks.proofs.Counting.{next-less, as_long}
 use Rattle.clocks.proofs.Clocking.{comes-plain}
 use Rattle.clocks.proofs.Standing.{told-long}

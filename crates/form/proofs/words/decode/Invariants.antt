@@ -1,5 +1,5 @@
 -- `form::words::decode` meets its contract: what is decoded so far, and what is left to decode into the rest, is the whole.
-use Prim.Native.Nat.{◌+◌, ◌≤◌, ◌-◌}
+use Prim.Native.Nat.{◌≤◌, ◌-◌}
 use mathlib.Core.Path.{◌≡◌}
 use mathlib.Core.List.{◌++◌}
 use lib.ListN.{length, drop, take}

@@ -1,5 +1,5 @@
 -- `form::words::encode` meets its contract: what is laid so far, and what is left to lay over the rest, is the whole.
-use Prim.Native.Nat.{◌+◌, ◌≤◌, ◌-◌}
+use Prim.Native.Nat.{◌≤◌, ◌-◌}
 use mathlib.Core.Path.{◌≡◌}
 use mathlib.Core.List.{◌++◌}
 use lib.ListN.{length, drop, take}

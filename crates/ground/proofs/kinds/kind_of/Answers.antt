@@ -1,8 +1,6 @@
 -- `ground::kinds::kind_of` meets its contract: each arm's number decides the tests of `kind_of`.
 use borrow.Author.Rules.{rules}
-use borrow.Author.Tests.{eq-eqb, ne_eqb, tests}
-use native.Mathlib.Omega.{arith}
-use Rattle.std.proofs.lemmas.Bool.Decides.{nat_tests}
+use borrow.Author.Tests.{eq-eqb, ne_eqb}
 use Rattle.ground.specs.Kind.{kind_of}
 use Rattle.ground.proofs.kinds.kind_of.Goals as goal
 

@@ -1,6 +1,5 @@
 -- `plain::awake::go_on` meets its contract: whatever stood before it stands after each sample.
 use mathlib.Core.Bool.{Bool, true, false, not, ◌||◌}
-use mathlib.Core.Logic.{⊎_elim}
 use mathlib.Core.Path.{◌≡◌, refl, sym, ◌∙◌}
 use native.Mathlib.Nat.{le_of_lt}
 use borrow.Author.Rules.{scaled_Fits}
@@ -71,9 +70,10 @@ loop-i-preserved-in-Eighth c =
     let k = comes-eighth _ _ _ c.turn_of-turn.ensures c.in-Eighth.is in
     let h = c.fills.ensures in
     let f : (c.if-fills.load ≡ kept_of c.args.kind c.spoken-d.result c.push-v.result c.loop-i.load) × (c.if-fills.empty ≡ true → c.if-fills.load ≡ empty_load) =
-      elim c.if-fills.branch [
-        then-fills w ↦ (w.load-is ∙ kept-filled _ _ _ _ _ h w.if-fills.true, λ e. never (sym w.empty-is ∙ e))
-      | else-fills w ↦ (w.load-is ∙ kept-left _ _ _ _ _ h w.if-fills.false, λ e. w.load-is ∙ inv.3 (sym w.empty-is ∙ e)) ] in
+    elim c.if-fills.branch [
+      | then-fills w ↦ (w.load-is ∙ kept-filled _ _ _ _ _ h w.if-fills.true, λ e. never (sym w.empty-is ∙ e))
+      | else-fills w ↦ (w.load-is ∙ kept-left _ _ _ _ _ h w.if-fills.false, λ e. w.load-is ∙ inv.3 (sym w.empty-is ∙ e))
+    ] in
     (inv.0, inv.1, record { long = told-long c.tell-i.ensures ∙ inv.2.long; stands = λ s row₀ first j l g. eighth-turn (inv.2.stands s row₀ first j l g) c.loop-i-test.true c.args.kind c.args.select c.spoken-d.result _ _ _ _ _ _ k c.push-v.ensures j l c.spoken-d.ensures c.byte-device.ensures f.0 c.fallen-now.ensures c.tell-i.ensures }, f.1)
 
 pub fallen-now-requires-in-Ninth : goal.fallen-now-requires-in-Ninth
@@ -113,9 +113,10 @@ loop-i-preserved-in-Start c =
     let inv = c.loop-i.invariant in
     let k = comes-start _ _ _ c.turn_of-turn.ensures c.in-Start.is in
     let e : c.if-not-empty.load ≡ empty_load =
-      elim c.if-not-empty.branch [
-        then-not-empty w ↦ w.load-is ∙ w.empty-load.ensures
-      | else-not-empty w ↦ w.load-is ∙ inv.3 w.if-not-empty.false ] in
+    elim c.if-not-empty.branch [
+      | then-not-empty w ↦ w.load-is ∙ w.empty-load.ensures
+      | else-not-empty w ↦ w.load-is ∙ inv.3 w.if-not-empty.false
+    ] in
     (inv.0, inv.1, record { long = told-long c.tell-i-in-Start.ensures ∙ inv.2.long; stands = λ s row₀ first j l g. start-turn (inv.2.stands s row₀ first j l g) c.loop-i-test.true _ _ _ _ _ _ _ k refl c.started-times.ensures c.start-device.ensures e c.cut-now.ensures c.tell-i-in-Start.ensures }, λ h. e)
 
 pub overflow_sub-now-in-Stop : goal.overflow_sub-now-in-Stop

@@ -2,7 +2,7 @@
 use borrow.Author.Tests.{le-leb, lt-leb}
 use Rattle.ground.specs.Verdict.{meant}
 use Rattle.refusals.specs.Refusals.{power_of}
-use Rattle.ground.proofs.Tests.{not-zero, not-held, not-failed}
+use Rattle.ground.proofs.Tests.{not-zero}
 use Rattle.refusals.proofs.verdicts.power.Goals as goal
 
 pub returns-then-kind-eq0 : goal.returns-then-kind-eq0

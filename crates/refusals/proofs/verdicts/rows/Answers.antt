@@ -1,6 +1,5 @@
 -- `refusals::verdicts::rows` meets its contract.
 use borrow.Author.Tests.{eq-eqb, ne_eqb, le-leb, lt-leb}
-use Rattle.ground.proofs.Tests.{not-held, not-failed}
 use Rattle.ground.specs.Verdict.{meant}
 use Rattle.refusals.proofs.verdicts.rows.Goals as goal
 
