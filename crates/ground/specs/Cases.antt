@@ -1,5 +1,5 @@
 -- Small words that tables of cases are made of; joined tests, choices and equal truth values are the library's `◌&&◌`, `◌||◌`, `cond` and
--- `Bool·beq`.
+-- `beq`.
 use Rattle.std.specs.Prelude.{ℕ, ◌/◌, ◌%◌, Bool, true, false, eqb}
 
 -- The number if the test holds, else 0.
