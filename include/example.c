@@ -6,9 +6,9 @@
  *
  * It prints:
  *   replay: reply 0 31, acknowledged, array[0] = FF
- *   image: reply 0 28, array[16] = 42
+ *   image: reply 0 2, array[16] = 42
  *   image without its end: reply 17 16
- *   image of an X4283: reply 0 26, larger[16383] = 42 */
+ *   image of an X4283: reply 0 1, larger[16383] = 42 */
 #include <inttypes.h>
 #include <stdio.h>
 #include <string.h>
@@ -55,8 +55,8 @@ int main(void) {
     qillampu_read_image(4323, (const uint8_t *)text, 16, array, SIZE, reply, 2);
     printf("image without its end: reply %" PRIu64 " %" PRIu64 "\n", reply[0], reply[1]);
 
-    /* An X4283 has 16,384 bytes; for an X4323 this text is refused with 15. */
-    text = ":013FFF00427F\n:00000001FF\n";
+    /* An X4283 has 16,384 bytes; for an X4323 this text is refused with 15. Digits may be in lower case. */
+    text = ":013fff00427f\n:00000001ff\n";
     qillampu_read_image(4283, (const uint8_t *)text, strlen(text), larger, LARGER, reply, 2);
     printf("image of an X4283: reply %" PRIu64 " %" PRIu64 ", larger[16383] = %02X\n", reply[0], reply[1],
            larger[16383]);

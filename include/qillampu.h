@@ -17,7 +17,7 @@
  *    9  replay            a time over 100,000; place: the sample, from 0
  *   10  replay            a level byte over 15; place: the sample
  *   11  reading           more than 65,536 bytes of text
- *   12  reading           a line out of form; place: the line's first byte, as for 13 to 16
+ *   12  reading           a line out of form (digits may be in either case); place: the line's first byte, as for 13 to 16
  *   13  reading           a wrong checksum
  *   14  reading           a record type that is not 00 or 01, or an end record with a count or an address
  *   15  reading           data past the part's last address
@@ -83,7 +83,8 @@ uint8_t qillampu_replay_dump(uint16_t part, uint8_t select, uint8_t stored,
                              uint64_t *places, size_t places_len,
                              uint64_t *reply, size_t reply_len);
 
-/* Reads an image of a part in Intel's hexadecimal format. Accepted, the count is the text's length.
+/* Reads an image of a part in Intel's hexadecimal format, digits in either case. Accepted, the count is the number of
+ * different addresses that the text gives a byte for, FFh or another: a file that was cut short gives fewer.
  *   part      4323, 4325, 4283 or 4285
  *   text      the image
  *   array     as many bytes as the part has: what the text gives, and FFh where it gives nothing

@@ -1,6 +1,6 @@
 /* The benchmark's program; `run` calls it.
- *   bench check              both sides on every job, on refused and random inputs, at blocks' ends, on stops inside a byte and on
- *                            dumps; status 1 if anything differs
+ *   bench check              both sides on every job, on refused and random inputs, at blocks' ends, on stops inside a byte, on
+ *                            short images and on dumps; status 1 if anything differs
  *   bench table ROUNDS WAY [COUNTS]   measures and judges; WAY is `time` or `instructions`; status 1 if a bar is missed.
  *                            COUNTS: a file of lines `JOB PROVED C`, instructions of the job counted from outside
  *   bench counter            status 0 if the kernel lets this program count its instructions itself
@@ -9,6 +9,7 @@
  *   bench jobs | bench input JOB      the names; a job's first text, array or dump on standard output */
 #include "agree.h"
 #include "agree_dumps.h"
+#include "agree_images.h"
 #include "measure.h"
 
 #include <stdio.h>
@@ -34,12 +35,10 @@ static int check(void)
     bool ok = true;
     for (int i = 0; i < JOBS; i++) {
         make_input(&input, &jobs[i]);
-        ok &= jobs[i].operation == REPLAY_DUMP ? agree_on_dump_job(&input) : agree_on_job(&input);
+        ok &= agree_on_job(&input);
     }
-    ok &= agree_on_refusals();
-    ok &= agree_on_blocks();
-    ok &= agree_on_cuts();
-    ok &= agree_on_random();
+    ok &= agree_on_captures();
+    ok &= agree_on_images();
     ok &= agree_on_dumps();
     printf(ok ? "equal: replies, answers, arrays, texts and places of both sides on every input\n"
               : "FAIL: the two sides differ\n");

@@ -13,6 +13,7 @@ enum { DATA = 0, END = 1 };
  * smaller one uses, clears and copies no more than its own bytes of it. */
 struct image {
     size_t bytes;
+    size_t count; /* of the bytes given so far; none is given twice, so that their addresses are all different */
     uint8_t cells[LARGER];
     bool given[LARGER];
 };
@@ -21,26 +22,27 @@ struct image {
 static void clear(struct image *image, size_t bytes)
 {
     image->bytes = bytes;
+    image->count = 0;
     for (size_t at = 0; at < bytes; at += SMALLER) {
         memset(image->cells + at, 0xFF, SMALLER);
         memset(image->given + at, 0, SMALLER);
     }
 }
 
+/* A digit's value, whatever its case, which is one bit; negative if it is none. The letter is worked out first: then fewer jumps
+ * hang on what the character is, which cannot be foreseen. */
 static int digit(uint8_t c)
 {
-    if (c >= '0' && c <= '9')
-        return c - '0';
-    if (c >= 'A' && c <= 'F')
-        return c - 'A' + 10;
-    return -1;
+    uint8_t figure = (uint8_t)(c - '0'), letter = (uint8_t)((c | ('a' - 'A')) - 'a');
+    int value = letter < 6 ? letter + 10 : -1;
+
+    return figure < 10 ? figure : value;
 }
 
-/* The byte that two digits give; negative if one of them is none. */
+/* The byte that two digits give; negative if one of them is. */
 static int pair(const uint8_t *c)
 {
-    int high = digit(c[0]), low = digit(c[1]);
-    return high < 0 || low < 0 ? -1 : high << 4 | low;
+    return digit(c[0]) * 16 | digit(c[1]);
 }
 
 /* The place after the end of a line whose last digit stands before `at`; 0 if the line goes on there. */
@@ -54,26 +56,28 @@ static size_t line_end(const uint8_t *text, size_t text_len, size_t at)
 }
 
 /* Reads the line at `at` into `record` (count, address, type, data, checksum) and adds it up.
- * Answers the place after the line, or 0 where it is malformed: the count says where a line must end, so nothing is searched. */
+ * Answers the place after the line, or 0 where it is malformed: the count says where a line must end, so nothing is searched.
+ * That a character is no digit is asked once for the line: a loop without a way out is done several bytes at a time. */
 static size_t read_line(const uint8_t *text, size_t text_len, size_t at, uint8_t *record, uint8_t *sum)
 {
     const uint8_t *line = text + at;
     size_t left = text_len - at;
-    int count, byte;
+    int count, all = 0;
+    uint8_t total = 0;
 
     if (left < SHORTEST_LINE || line[0] != ':' || (count = pair(line + 1)) < 0)
         return 0;
     size_t length = SHORTEST_LINE + 2 * (size_t)count;
     if (left < length)
         return 0;
-    *sum = 0;
     for (size_t i = 0; i < HEAD_BYTES + (size_t)count + 1; i++) {
-        if ((byte = pair(line + 1 + 2 * i)) < 0)
-            return 0;
+        int byte = pair(line + 1 + 2 * i);
+        all |= byte;
         record[i] = (uint8_t)byte;
-        *sum = (uint8_t)(*sum + byte);
+        total = (uint8_t)(total + byte);
     }
-    return line_end(text, text_len, at + length);
+    *sum = total;
+    return all < 0 ? 0 : line_end(text, text_len, at + length);
 }
 
 /* 14 to 16, and the record's bytes into the image. Answers the refusal number, or 0. */
@@ -91,6 +95,7 @@ static unsigned take_record(struct image *image, const uint8_t *record)
         image->given[address + i] = true;
         image->cells[address + i] = record[HEAD_BYTES + i];
     }
+    image->count += count;
     return 0;
 }
 
@@ -142,7 +147,7 @@ uint8_t cimage_read(uint16_t part, const uint8_t *text, size_t text_len, uint8_t
     if (reply[0] == 0) {
         for (size_t at = 0; at < image.bytes; at += SMALLER)
             memcpy(array + at, image.cells + at, SMALLER);
-        reply[1] = text_len;
+        reply[1] = image.count;
     }
     return 1;
 }

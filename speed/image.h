@@ -6,11 +6,11 @@
 #include <stddef.h>
 #include <stdint.h>
 
-/* An accepted text's count is its length: the rules give it none, and that is what the door answers. */
+/* Digits are taken in either case. An accepted text's count is that of the different addresses that its data records give. */
 uint8_t cimage_read(uint16_t part, const uint8_t *text, size_t text_len, uint8_t *array, size_t array_len,
                     uint64_t *reply, size_t reply_len);
 
-/* The count is the length written. */
+/* Digits are in upper case. The count is the length written. */
 uint8_t cimage_write(uint16_t part, const uint8_t *array, size_t array_len, uint8_t *out, size_t out_len,
                      uint64_t *reply, size_t reply_len);
 

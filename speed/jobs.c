@@ -11,6 +11,7 @@
 #include <string.h>
 
 enum { END_LINE = 12 }; /* bytes of a text that is an end record alone */
+enum { LETTERS = LOWER | MIXED };
 enum { ONE_TIME_ROOM = 500, FEW_CALLS = 64, SHORT_DUMPS = 1 << 19 };
 
 const struct side sides[SIDES] = {
@@ -22,6 +23,8 @@ const struct side sides[SIDES] = {
  * For each call a reader clears and copies its cells. That the smaller part does not pay for the larger one's is shown by reading
  * an image of no data on either (`read-none`, see bench.c), and watched by the bars on instructions of the two shortest reads: one
  * that took 16,384 cells for a part of 4,096 would miss them. The C reader takes the part's own cells only.
+ * Texts are in upper case where nothing else is said. Their twins in lower case have the same records and the same bars, so that
+ * neither case is paid for by the other; mixed, a letter's case cannot be foreseen.
  * A dump is the mix as an analyser would save it. The first four differ in size alone; that of one time is what a call costs before
  * any of them begins to differ (see print_linear in bench.c). */
 const struct job jobs[JOBS] = {
@@ -32,11 +35,18 @@ const struct job jobs[JOBS] = {
     {"idle", "idle bus", REPLAY, 4323, 65536, 1.0, 0.65, 0x60, capture_idle, 0},
     {"reset", "reset throughout", REPLAY, 4323, 65536, 1.5, 0.65, 0x60, capture_reset, 0},
     {"edges", "start or stop at every sample", REPLAY, 4323, 65536, 1.5, 0.95, 0x60, capture_edges, 0},
-    {"read-1k", "read 1 KB, 16 a record", READ, 4323, 1024, 1.0, 0.75, 0, NULL, 16},
-    {"read-4k", "read 4 KB, 16 a record", READ, 4323, 4096, 1.0, 0.60, 0, NULL, 16},
+    {"read-1k", "read 1 KB, 16 a record", READ, 4323, 1024, 1.0, 0.90, 0, NULL, 16},
+    {"read-1k-lower", "read 1 KB, lower case", READ, 4323, 1024, 1.0, 0.90, 0, NULL, 16 | LOWER},
+    {"read-4k", "read 4 KB, 16 a record", READ, 4323, 4096, 1.0, 0.75, 0, NULL, 16},
+    {"read-4k-lower", "read 4 KB, lower case", READ, 4323, 4096, 1.0, 0.75, 0, NULL, 16 | LOWER},
     {"read-full", "read 11 KB, 16 a record", READ, 4323, SMALLER_TEXT, 1.0, 0, 0, NULL, 16},
+    {"read-full-lower", "read 11 KB, lower case", READ, 4323, SMALLER_TEXT, 1.0, 0, 0, NULL, 16 | LOWER},
+    {"read-full-mixed", "read 11 KB, mixed case", READ, 4323, SMALLER_TEXT, 1.0, 0, 0, NULL, 16 | MIXED},
     {"read-16k", "read 16 KB, 6 a record", READ, 4323, 16384, 1.0, 0, 0, NULL, 6},
+    {"read-16k-lower", "read 16 KB, lower case", READ, 4323, 16384, 1.0, 0, 0, NULL, 6 | LOWER},
     {"read-64k", "read 64 KB, 1 a record", READ, 4323, 65536, 1.0, 0, 0, NULL, 1},
+    {"read-64k-lower", "read 64 KB, lower case", READ, 4323, 65536, 1.0, 0, 0, NULL, 1 | LOWER},
+    {"read-64k-mixed", "read 64 KB, mixed case", READ, 4323, 65536, 1.0, 0, 0, NULL, 1 | MIXED},
     {"write-full", "write a full array", WRITE, 4323, SMALLER, 1.0, 0, 0, NULL, 1},
     {"write-sparse", "write one row in eight", WRITE, 4323, SMALLER, 1.0, 0, 0, NULL, 8},
     {"write-blank", "write all FFh", WRITE, 4323, SMALLER, 1.0, 0, 0, NULL, 0},
@@ -80,7 +90,8 @@ static void make_call(struct input *input, size_t call)
         break;
     case READ:
         fill_array(input->arrays, bytes, 1, seed);
-        input->length[call] = make_text(input->text + at, job->size, input->arrays, bytes, job->shape);
+        input->length[call] = make_text(input->text + at, job->size, input->arrays, bytes, job->shape & ~LETTERS);
+        set_letters(input->text + at, input->length[call], job->shape & LETTERS, seed);
         break;
     case WRITE:
         fill_array(input->arrays + at, bytes, job->shape, seed);

@@ -35,10 +35,10 @@ struct job {
     double count_bar; /* the same of instructions alone, judged where they were counted; 0: none */
     uint8_t stored;   /* replay, of dumps too */
     void (*capture)(struct master *);
-    unsigned shape;   /* read: bytes a record; write: every how many rows one holds bytes; dump: its form */
+    unsigned shape;   /* read: bytes a record, and LOWER or MIXED; write: every how many rows one holds bytes; dump: its form */
 };
 
-enum { JOBS = 30 };
+enum { JOBS = 37 };
 extern const struct job jobs[JOBS];
 
 enum { MOST_CALLS = 128 };

@@ -57,13 +57,28 @@ size_t make_text(uint8_t *text, size_t room, const uint8_t *array, size_t bytes,
     return (size_t)(put_line(at, 0, 1, NULL, 0) - text);
 }
 
+void set_letters(uint8_t *text, size_t length, unsigned letters, uint32_t seed)
+{
+    const uint8_t lower = 'a' - 'A'; /* the bit that a letter in lower case has */
+    uint32_t random = seed * 2654435761u;
+
+    for (size_t i = 0; i < length; i++) {
+        uint8_t upper = text[i] & (uint8_t)~lower;
+        if (upper < 'A' || upper > 'F')
+            continue;
+        random = random * 1664525 + 1013904223;
+        text[i] = letters == LOWER || (letters == MIXED && random >> 31) ? upper | lower : upper;
+    }
+}
+
 size_t damaged_text(uint8_t *text, const uint8_t *from, size_t length, struct master *m)
 {
+    static const char bytes[] = "0123456789ABCDEFabcdef/:@G`g\n\r "; /* and the NUL at its end */
     enum { CHANGES = 3 };
 
     memcpy(text, from, length);
     for (uint32_t k = master_random(m, CHANGES + 1); k > 0; k--)
-        text[master_random(m, (uint32_t)length)] = (uint8_t)"0123456789ABCDEF:\n\r \0f"[master_random(m, 22)];
+        text[master_random(m, (uint32_t)length)] = (uint8_t)bytes[master_random(m, sizeof bytes)];
     return length;
 }
 
@@ -74,8 +89,12 @@ size_t scattered_text(uint8_t *text, const uint8_t *data, struct master *m)
 
     for (uint32_t k = 1 + master_random(m, 4); k > 0; k--) {
         unsigned count = master_random(m, 4) ? master_random(m, 20) : master_random(m, 256);
-        unsigned address = master_random(m, 8) ? ends[master_random(m, 4)] - master_random(m, 300) : master_random(m, 65536);
-        at = put_line(at, address & 0xFFFF, 0, data, count);
+        unsigned end = master_random(m, 2) ? SMALLER : ends[master_random(m, 4)];
+        unsigned address = master_random(m, 8) ? end - master_random(m, 300) : master_random(m, 65536);
+        unsigned type = master_random(m, 8) ? 0 : master_random(m, 4);
+        at = put_line(at, address & 0xFFFF, type, data, count);
     }
-    return (size_t)(put_line(at, 0, 1, NULL, 0) - text);
+    for (uint32_t k = master_random(m, 4) ? 1 : 2 * master_random(m, 2); k > 0; k--)
+        at = put_line(at, 0, 1, NULL, 0);
+    return (size_t)(at - text);
 }

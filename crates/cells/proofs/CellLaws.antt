@@ -1,14 +1,17 @@
 -- Laws of the cells and of blank bytes that several proofs cite. Assumes nothing.
-use Prim.Native.Nat.{ℕ, zero, suc, ◌<◌, ◌≤◌}
-use mathlib.Core.Bool.{Bool, true, false, ◌&&◌, and_assoc, and-true}
+use Prim.Native.Nat.{ℕ, zero, suc, ◌+◌, ◌<◌, ◌≤◌}
+use mathlib.Core.Bool.{Bool, true, false, not, ◌&&◌, and_assoc, and-true}
 use mathlib.Core.List.{List, [], ◌∷◌, ◌++◌, append_assoc, append-nil}
 use mathlib.Core.Path.{◌≡◌, refl, ap, sym, ◌∙◌}
 use native.Mathlib.Omega.{arith}
 use lib.Dec.{eqb, ltb}
 use lib.ListN.{length, get_or, take, drop, set, replicate, take-append-drop, drop_of_length-le}
-use lib.Seq.{drop-cons, take-suc-set, drop-set-lt, take_all}
-use borrow.Author.Tests.{eqb-true, lt-ltb, ltb-true}
-use Rattle.cells.specs.Cells.{not_given, blank_byte, fresh_of, give_of, byte_by, settled_of, blank_of}
+use lib.Seq.{drop-cons, take-suc, take-suc-set, drop-set-lt, take_all}
+use borrow.Author.Tests.{eqb-true, ne_eqb, lt-ltb, ltb-true}
+use Rattle.ground.specs.Numbers.{byte_values}
+use Rattle.ground.specs.Cases.{or_zero}
+use Rattle.cells.specs.Bytes.{each_is, all_bytes}
+use Rattle.cells.specs.Cells.{not_given, blank_byte, fresh_of, give_of, given_in, byte_by, settled_of, blank_of}
 use Rattle.ground.proofs.Tests.{and_split}
 
 -- The rows keep their lengths.
@@ -117,3 +120,51 @@ blank-same [] e = refl
 blank-same (b ∷ bs) e =
     let t = and_split (eqb b blank_byte) (blank_of bs) e in
     rw (eqb-true b blank_byte t.0) (ap (λ (l : List ℕ). blank_byte ∷ l) (blank-same bs t.1))
+
+-- A test holds of each number of two lists if it does of each of both joined.
+pub each_append : (t : ℕ → Bool) (xs ys : List ℕ) → each_is t (xs ++ ys) ≡ (each_is t xs && each_is t ys)
+each_append t [] ys = refl
+each_append t (x ∷ xs) ys = rw (each_append t xs ys, and_assoc (t x) (each_is t xs) (each_is t ys))
+
+-- One byte more of bytes is looked at.
+pub bytes-turn : (bs : List ℕ) (i : ℕ) → i < length bs → all_bytes (take i bs) ≡ true → get_or bs i 0 < byte_values
+    → all_bytes (take (suc i) bs) ≡ true
+bytes-turn bs i p e h =
+    let b = lt-ltb (get_or bs i 0) byte_values h in
+    rw (take-suc bs i 0 p, each_append (λ (x : ℕ). ltb x byte_values) (take i bs) (get_or bs i 0 ∷ []), e, b)
+
+pub bytes-done : (bs : List ℕ) (i : ℕ) → length bs ≤ i → all_bytes (take i bs) ≡ true → all_bytes bs ≡ true
+bytes-done bs i h e = rw (take_all i bs h) at e
+
+-- Given cells are counted one by one.
+pub given-append : (xs ys : List ℕ) → given_in (xs ++ ys) ≡ given_in xs + given_in ys
+given-append [] ys = omega arith
+given-append (x ∷ xs) ys = rw (given-append xs ys) (omega arith)
+
+-- Of cells of which none is given there are none.
+pub given-none : (n : ℕ) → given_in (replicate n not_given) ≡ 0
+given-none zero = refl
+given-none (suc n) = omega (arith, given-none n)
+
+-- Bytes given to cells of which none was given are so many more.
+pub given-fresh : (cs bs : List ℕ) → fresh_of cs bs ≡ true → all_bytes bs ≡ true → length bs ≤ length cs
+    → given_in (give_of cs bs) ≡ given_in cs + length bs
+given-fresh [] [] e a h = refl
+given-fresh [] (b ∷ bs) e a h = absurd (omega arith)
+given-fresh (c ∷ cs) [] e a h = omega arith
+given-fresh (c ∷ cs) (b ∷ bs) e a h =
+    let f = and_split (eqb c not_given) (fresh_of cs bs) e in
+    let t = and_split (ltb b byte_values) (all_bytes bs) a in
+    let n : eqb b not_given ≡ false = ne_eqb b not_given (λ z. omega (arith, ltb-true b byte_values t.0, z)) in
+    let before : or_zero (not (eqb c not_given)) 1 ≡ 0 = rw f.0 in
+    let after : or_zero (not (eqb b not_given)) 1 ≡ 1 = rw n in
+    omega (arith, before, after, given-fresh cs bs f.1 t.1 (omega arith))
+
+-- No more are given than there are.
+pub given-most : (cs : List ℕ) → given_in cs ≤ length cs
+given-most [] = omega arith
+given-most (c ∷ cs) = go (eqb c not_given) (given-most cs)
+  where
+    go : (b : Bool) → given_in cs ≤ length cs → or_zero (not b) 1 + given_in cs ≤ suc (length cs)
+    go true h = omega arith
+    go false h = omega arith

@@ -1,6 +1,7 @@
 -- Cells, one for each address: the byte that a file gives there, or that it gives none; and blank bytes (document 01, Image files).
-use Rattle.std.specs.Prelude.{ℕ, Bool, true, false, ◌&&◌, List, [], ◌∷◌, eqb, ltb}
+use Rattle.std.specs.Prelude.{ℕ, ◌+◌, Bool, true, false, not, ◌&&◌, List, [], ◌∷◌, eqb, ltb}
 use Rattle.ground.specs.Numbers.{byte_values}
+use Rattle.ground.specs.Cases.{or_zero}
 
 -- What a cell holds that is not given: more than any byte (Image files, bytes not given).
 abbrev pub not_given : ℕ
@@ -21,6 +22,11 @@ abbrev pub give_of : List ℕ → List ℕ → List ℕ
 give_of [] bs = []
 give_of (c ∷ cs) [] = c ∷ cs
 give_of (c ∷ cs) (b ∷ bs) = b ∷ give_of cs bs
+
+-- How many of the cells are given, whatever bytes they have (request 2026-04, how many different addresses the data records gave).
+abbrev pub given_in : List ℕ → ℕ
+given_in [] = 0
+given_in (c ∷ cs) = or_zero (not (eqb c not_given)) 1 + given_in cs
 
 -- A cell that is given, and one that is not (Image files, bytes not given).
 abbrev pub byte_by : Bool → ℕ → ℕ

@@ -1,2 +1,3 @@
+pub mod Bytes
 pub mod Cells
 pub mod Promises

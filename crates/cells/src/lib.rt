@@ -1,5 +1,5 @@
 // Cells, one for each address: the byte that a file gives there, or `NOT_GIVEN`; and rows of bytes that a file need not give.
-ghost use Rattle.std.specs.Prelude.{◌≡◌, ◌≤◌, length, ltb};
+ghost use Rattle.std.specs.Prelude.{◌≡◌, ◌≤◌, ◌<◌, length, ltb};
 ghost use Rattle.cells.specs.Cells.{byte_by, settled_of, blank_of};
 ghost use Rattle.cells.specs.Promises.{GivesTo};
 
@@ -24,7 +24,8 @@ pub fn give(cells: &mut [u16], bytes: &[u8]) -> bool
 }
 
 fn wide(byte: u8) -> u16
-    ensures { result ≡ byte }
+    ensures value { result ≡ byte }
+    ensures byte_bound { byte < 256 }
 {
     byte as u16
 }

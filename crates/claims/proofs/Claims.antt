@@ -4,7 +4,8 @@ use Rattle.demand3_runs.proofs.Witness.{occurs}
 use Rattle.bent_steps.proofs.Bends.{bent-steps}
 use Rattle.chip_claims.proofs.CutStops.{cut-stops}
 use Rattle.chip_claims.proofs.Chip.{demand-3, replay-demand-3, power-demand-3, computed-form, reachable-states, handed_out, stays_fit, fit-again, cut-anywhere, at-runs}
-use Rattle.image_claims.proofs.Images.{round-trips, intel-trips, lengths, write-then-read, door-trip, tidies, tidy-twice, room-enough, at-paper}
+use Rattle.image_claims.proofs.Images.{round-trips, intel-trips, lengths, write-then-read, door-trip, tidies, tidy-twice, room-enough, counts-given, either-case, at-paper}
+use Rattle.image_cases.proofs.ImageCases.{lower-case-files}
 use Rattle.dump_claims.proofs.Refusals.{dump-refusals}
 use Rattle.dump_claims.proofs.OneOutcome.{one-outcome}
 use Rattle.dump_claims.proofs.Pieces.{joined-pieces}
@@ -57,7 +58,10 @@ claims =
       tidy-twice = tidy-twice;
       lengths = lengths;
       room-enough = room-enough;
+      counts-given = counts-given;
+      either-case = either-case;
       at-paper = at-paper;
+      lower-case-files = lower-case-files;
       dump-refusals = dump-refusals;
       one-outcome = one-outcome;
       joined-pieces = joined-pieces;

@@ -56,7 +56,7 @@ some-reply =
       size = λ part. (size_for (known part) (kind_of part).size, record { said = size-means (known part) (kind_of part).size });
       read-image = λ part text array.
           let t = image_of intel part text array in
-          let v = verdict_of t (length text) in
+          let v = verdict_of t in
           ((reply_of v, array_after t array), record { reply = reply-means v; kept = refl });
       write-image = λ part array out.
           let v = write_verdict intel part array out in
@@ -74,7 +74,7 @@ some-reply =
       door-read-image = λ part text array numbers.
           let t = image_of intel part text array in
           let b = fits numbers in (
-            (answer_by b, left_or b (array_after t array) array, left_or b (told (verdict_of t (length text))) numbers),
+            (answer_by b, left_or b (array_after t array) array, left_or b (told (verdict_of t)) numbers),
             record { answer = refl; reply = refl; kept = refl },
           );
       door-write-image = λ part array out numbers.

@@ -9,8 +9,9 @@ use Rattle.chip_claims.specs.CutStops.{CutStops}
 use Rattle.chip_claims.specs.Demand3.{Demand3, ReplayDemand3, PowerDemand3, ComputedForm}
 use Rattle.chip_claims.specs.States.{ReachableStates, HandedOut, StaysFit, FitAgain, CutAnywhere}
 use Rattle.chip_claims.specs.AtRuns.{AtRuns}
-use Rattle.image_claims.specs.Images.{RoundTrips, IntelTrips, Lengths, WriteThenRead, DoorTrip, Tidies, TidyTwice, RoomEnough}
+use Rattle.image_claims.specs.Images.{RoundTrips, IntelTrips, Lengths, WriteThenRead, DoorTrip, Tidies, TidyTwice, RoomEnough, CountsGiven, EitherCase}
 use Rattle.image_claims.specs.AtPaper.{AtPaper}
+use Rattle.image_cases.specs.ImageCases.{LowerCaseFiles}
 use Rattle.dump_claims.specs.Refusals.{DumpRefusals}
 use Rattle.dump_claims.specs.OneOutcome.{OneOutcome}
 use Rattle.dump_claims.specs.Pieces.{JoinedPieces}
@@ -62,8 +63,12 @@ pub record Claims : Type 0 where
   -- How long texts are, and which room is enough.
   pub lengths : Lengths
   pub room-enough : RoomEnough
-  -- The claims on images, used at the image that the paper shows.
+  -- How many addresses a text gave; digits in either case.
+  pub counts-given : CountsGiven
+  pub either-case : EitherCase
+  -- The claims on images, used at the image that the paper shows; such images in files of either case, cut ones among them.
   pub at-paper : AtPaper
+  pub lower-case-files : LowerCaseFiles
   -- Dumps: a refusal says its number and line and changes nothing; one reply; pieces are one run; what the program writes; the verdict is the least fault; dumps
   -- that were worked by hand.
   pub dump-refusals : DumpRefusals

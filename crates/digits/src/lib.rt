@@ -1,4 +1,4 @@
-// Hexadecimal digits, upper case.
+// Hexadecimal digits: read in either case, written in upper case.
 ghost use Rattle.std.specs.Prelude.{◌≡◌, ◌<◌, ◌/◌, ◌%◌, ltb};
 ghost use Rattle.digits.specs.Digits.{within, is_digit, glyph_of};
 ghost use Rattle.digits.specs.Values.{shift_by, value_of};
@@ -20,7 +20,7 @@ pub fn within(low: u8, high: u8, character: u8) -> bool
 pub fn is_digit(character: u8) -> bool
     ensures { result ≡ is_digit character }
 {
-    within(0x30, 0x39, character) | within(0x41, 0x46, character)
+    within(0x30, 0x39, character) | within(0x41, 0x46, character) | within(0x61, 0x66, character)
 }
 
 // What a letter's value has beyond its lower four bits.

@@ -7,7 +7,8 @@ use Rattle.tokens.specs.Tokens.{words_of, last_line}
 use Rattle.wires.specs.Wires.{weight_of, laid, has_wire}
 use Rattle.wires.specs.Times.{time_of}
 use Rattle.wires.specs.Values.{is_value, level_of, unfit}
-use Rattle.words.specs.Words.{figure_of, numeral}
+use Rattle.digits.specs.Digits.{digit_of}
+use Rattle.words.specs.Words.{numeral}
 use Rattle.dumps.specs.Reading.{says_of, after_by}
 use Rattle.dumps.specs.Samples.{samples_in}
 use Rattle.dumps.specs.Faults.{heard_by, fault_by, end_fault, note, first, faults_of, dump_verdict}
@@ -15,7 +16,7 @@ use Rattle.dump_cases.specs.Cases.{DumpCases}
 
 -- Everything that a dump means, computed.
 pub dump-cases : DumpCases
-unfolding keyword_of section_says words_of last_line weight_of laid has_wire time_of is_value level_of unfit figure_of numeral says_of after_by samples_in heard_by fault_by end_fault note first faults_of dump_verdict
+unfolding keyword_of section_says words_of last_line weight_of laid has_wire time_of is_value level_of unfit digit_of numeral says_of after_by samples_in heard_by fault_by end_fault note first faults_of dump_verdict
 dump-cases =
     record {
       gap-100000 = refl;

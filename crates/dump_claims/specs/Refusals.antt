@@ -12,6 +12,7 @@ use Rattle.disagreements.specs.declared.Opened.{Opened}
 use Rattle.disagreements.specs.Promises.{Opens, Reports}
 use Rattle.door.specs.Promises.{ReplaysDump}
 use Rattle.replaying.specs.Shown.{start_verdict}
+use Rattle.replaying.specs.declared.Started.{Started}
 use Rattle.replaying.specs.Promises.{Readies}
 
 -- What each operation on dumps says and leaves where it refuses: k is the number and p the place, of a dump its line.
@@ -31,6 +32,6 @@ pub record DumpRefusals : Type 0 where
       → ReplaysDump part select stored dump array row numbers r array' row' numbers' → ¬ (length numbers ≡ 2)
       → (r ≡ 0) × (numbers' ≡ numbers) × (array' ≡ array) × (row' ≡ row)
   -- the program
-  pub start : (part select stored : ℕ) (image dump : List ℕ) (r : Opened) (array : List ℕ) (k p : ℕ)
+  pub start : (part select stored : ℕ) (image dump : List ℕ) (r : Started) (array : List ℕ) (k p : ℕ)
       → Readies part select stored image dump r array → start_verdict part select stored image dump ≡ refused k p
       → meant r.reply ≡ refused k p

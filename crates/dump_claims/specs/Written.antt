@@ -6,9 +6,9 @@ use Rattle.ground.specs.Verdict.{accepted, refused}
 use Rattle.texts.specs.Refusal.{refusal_line}
 use Rattle.pieces.specs.Marks.{left_from}
 use Rattle.disagreements.specs.declared.Stand.{Stand}
-use Rattle.disagreements.specs.declared.Opened.{Opened}
 use Rattle.replaying.specs.declared.Told.{Told}
 use Rattle.replaying.specs.Shown.{start_verdict, replay_text}
+use Rattle.replaying.specs.declared.Started.{Started}
 use Rattle.replaying.specs.Promises.{Readies, Tells}
 
 -- Pieces told one after the other, from a stand and an array to others, with their texts joined.
@@ -20,7 +20,7 @@ pub data Telling (dump : List ℕ) : Stand → List ℕ → List ℕ → Stand �
 
 -- The claim (2026-03, the report; on a refusal only its number and line).
 pub record Written : Type 0 where
-  pub report : (part select stored : ℕ) (image dump : List ℕ) (r : Opened) (array : List ℕ) (t : Stand) (array' text : List ℕ) (n : ℕ)
+  pub report : (part select stored : ℕ) (image dump : List ℕ) (r : Started) (array : List ℕ) (t : Stand) (array' text : List ℕ) (n : ℕ)
       → Readies part select stored image dump r array → start_verdict part select stored image dump ≡ accepted n
       → Telling dump r.stand array text t array' → left_from dump t.mark ≡ []
       → text ≡ replay_text part select stored image dump

@@ -21,6 +21,7 @@ use Rattle.intel.specs.Intel.{intel}
 use Rattle.image.specs.Promises.{image_of, write_verdict}
 use Rattle.reader.specs.Answers.{verdict_of}
 use Rattle.texts.specs.Laying.{Starts}
+use Rattle.texts.specs.Numbers.{number_line}
 use Rattle.texts.specs.Refusal.{refusal_line}
 use Rattle.tidying.specs.Shown.{shown_by, text_gives, shown_of}
 use Rattle.telling.specs.Told.{told, fits, answer_by, left_or}
@@ -60,7 +61,7 @@ door-cause part select stored es ls array row k p e =
 
 -- What the program writes.
 shown-cause : (x : Reading) (k p : ℕ) → shown_by x ≡ refusal_line k p → x ≡ bad k p
-shown-cause (taken array) k p e = absurd (no_line_lem array k p e)
+shown-cause (taken array count) k p e = absurd (no_line_lem array (number_line count) k p e)
 shown-cause (bad j q) k p e = let t = one_line j q k p e in rw (t.0, t.1)
 
 tidy-cause : (part : ℕ) (text out : List ℕ) (r : ℕ) (out' : List ℕ) (k p : ℕ)
@@ -86,15 +87,15 @@ no-refusal-without-cause =
           list-cause (capture_of s es ls array) (entries_of 0 es ls (record { state = s; array = array })) k p (sym x.reply ∙ e);
       size = λ part r k p x e. size-cause (known part) (kind_of part).size k p (size_meant r) x.said e;
       read-image = λ part text array r array' k p x e.
-          (verdict-bad (image_of intel part text array) (length text) k p).0 (sym x.reply ∙ e);
+          (verdict-bad (image_of intel part text array) k p).0 (sym x.reply ∙ e);
       write-image = λ part array out r out' k p x e. sym x.reply ∙ e;
       tidy = tidy-cause;
       door-replay = λ part select stored es ls array row numbers r array' row' numbers' k p x o h e.
           door-cause part select stored es ls array row k p
           (row-cause (fits numbers) (capture_verdict part select stored es ls array row) numbers numbers' r k p x.answer o h x.reply e);
       door-read-image = λ part text array numbers r array' numbers' k p x o h e.
-          (verdict-bad (image_of intel part text array) (length text) k p).0
-          (row-cause (fits numbers) (verdict_of (image_of intel part text array) (length text)) numbers numbers' r k p x.answer o h x.reply e);
+          (verdict-bad (image_of intel part text array) k p).0
+          (row-cause (fits numbers) (verdict_of (image_of intel part text array)) numbers numbers' r k p x.answer o h x.reply e);
       door-write-image = λ part array out numbers r out' numbers' k p x o h e.
           row-cause (fits numbers) (write_verdict intel part array out) numbers numbers' r k p x.answer o h x.reply e;
     }

@@ -9,6 +9,7 @@ pub mod WriteImage
 pub mod Lines
 pub mod Records
 pub mod Cells
+pub mod Counts
 pub mod Heard
 pub mod Walk
 pub mod ReadLines

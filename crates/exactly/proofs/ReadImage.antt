@@ -14,9 +14,9 @@ use Rattle.forms.specs.Reading.{Reading, bad, text_by, reading_of}
 use Rattle.intel.specs.Intel.{intel}
 use Rattle.reader.specs.Answers.{verdict_of}
 use Rattle.image.specs.Promises.{sized, image_by, image_of}
-use Rattle.exactly.specs.Words.{ByPart, SizeOf}
+use Rattle.exactly.specs.Words.{HowMany, ByPart, SizeOf}
 use Rattle.exactly.specs.Records.{WellFormed, SumsRight, TypeTaken, Gives}
-use Rattle.exactly.specs.Faults.{FirstAt, EndAt}
+use Rattle.exactly.specs.Faults.{GivenBefore, FirstAt, EndAt}
 use Rattle.exactly.specs.ReadImage.{TextFits, ReadImage}
 use Rattle.exactly.proofs.Decides.{holds, fails, decides-le}
 use Rattle.exactly.proofs.Words.{one-kind, size_is}
@@ -24,12 +24,11 @@ use Rattle.exactly.proofs.Steps.{step, Above, above_step, stop, stopped, past, p
 use Rattle.exactly.proofs.PartFirst.{past-size, through-size, to-rest, one, five}
 use Rattle.exactly.proofs.ReadLines.{lines, twelve, thirteen, fourteen, fifteen, sixteen, seventeen, eighteen, whole-text, line-numbers, verdict-bad}
 
-steps : (a b c : Bool) (r : Reading) (n : ℕ)
-    → verdict_of (image_by a b (text_by c r)) n ≡ step a 1 (step b 5 (step c 11 (verdict_of r n)))
-steps false b c r n = refl
-steps true false c r n = refl
-steps true true false r n = refl
-steps true true true r n = refl
+steps : (a b c : Bool) (r : Reading) → verdict_of (image_by a b (text_by c r)) ≡ step a 1 (step b 5 (step c 11 (verdict_of r)))
+steps false b c r = refl
+steps true false c r = refl
+steps true true false r = refl
+steps true true true r = refl
 
 -- A place past an array's end, by the part.
 past_end : (part size a : ℕ) → SizeOf part size → size ≤ a → ByPart part (0x0FFF < a) (0x3FFF < a)
@@ -44,29 +43,29 @@ end-past part size a (inr x) (inr y) = let e = x.1 in let h = y.1 in omega arith
 
 module _ (part : ℕ) (text array : List ℕ) where
   abbrev verdict : Verdict
-  verdict = verdict_of (image_of intel part text array) (length text)
+  verdict = verdict_of (image_of intel part text array)
 
   -- The lines, judged by the part's size.
   abbrev third : Verdict
-  third = verdict_of (lines (kind_of part).size text) (length text)
+  third = verdict_of (lines (kind_of part).size text)
 
   abbrev second : Verdict
   second = step (leb (length text) 65536) 11 third
 
   by-steps : verdict ≡ step (known part) 1 (step (sized part (length array)) 5 second)
   unfolding image_of reading_of
-  by-steps = steps (known part) (sized part (length array)) (leb (length text) 65536) (lines (kind_of part).size text) (length text)
+  by-steps = steps (known part) (sized part (length array)) (leb (length text) 65536) (lines (kind_of part).size text)
 
   above-eleven : Above 11 third
   above-eleven k p e =
-      (line-numbers (kind_of part).size text k p ((verdict-bad (lines (kind_of part).size text) (length text) k p).0 e)).0
+      (line-numbers (kind_of part).size text k p ((verdict-bad (lines (kind_of part).size text) k p).0 e)).0
 
   above-five : Above 5 second
   above-five = above_step (leb (length text) 65536) 5 11 third (omega arith) (λ j q e. let h = above-eleven j q e in omega arith)
 
   -- They are judged alike by the array's length.
-  same_lines : SizeOf part (length array) → third ≡ verdict_of (lines (length array) text) (length text)
-  same_lines s = ap (λ (n : ℕ). verdict_of (lines n text) (length text)) (sym (size_is part (length array) s))
+  same_lines : SizeOf part (length array) → third ≡ verdict_of (lines (length array) text)
+  same_lines s = ap (λ (n : ℕ). verdict_of (lines n text)) (sym (size_is part (length array) s))
 
   eleven : (p : ℕ) → (verdict ≡ refused 11 p) ↔ ((p ≡ 0) × SizeOf part (length array) × (65536 < length text))
   eleven p = (
@@ -80,7 +79,7 @@ module _ (part : ℕ) (text array : List ℕ) where
   )
 
   -- What the lines decide.
-  to-lines : TextFits part text array → verdict ≡ verdict_of (lines (length array) text) (length text)
+  to-lines : TextFits part text array → verdict ≡ verdict_of (lines (length array) text)
   to-lines f =
       to-rest part (length array) verdict second by-steps f.sized
       ∙ passed (leb (length text) 65536) 11 third (holds (decides-le (length text) 65536) f.short)
@@ -91,13 +90,13 @@ module _ (part : ℕ) (text array : List ℕ) where
       let t = past-size part (length array) verdict second by-steps k p (omega arith) e in
       let u = past (leb (length text) 65536) 11 k p third m t.1 in (
         record { sized = t.0; short = (decides-le (length text) 65536).yes u.0 },
-        (verdict-bad (lines (length array) text) (length text) k p).0 (sym (same_lines t.0) ∙ u.1),
+        (verdict-bad (lines (length array) text) k p).0 (sym (same_lines t.0) ∙ u.1),
       )
 
   by_lines : (k p : ℕ) {A : Type 0} → 11 < k → (lines (length array) text ≡ bad k p) ↔ A → (verdict ≡ refused k p) ↔ (TextFits part text array × A)
   by_lines k p m h = (
     λ e. let t = of-lines k p m e in (t.0, h.0 t.1),
-    λ x. to-lines x.0 ∙ (verdict-bad (lines (length array) text) (length text) k p).1 (h.1 x.1),
+    λ x. to-lines x.0 ∙ (verdict-bad (lines (length array) text) k p).1 (h.1 x.1),
   )
 
   -- 15 in the paper's numbers.
@@ -124,7 +123,7 @@ module _ (part : ℕ) (text array : List ℕ) where
 
   taken-text : (n : ℕ) → (verdict ≡ accepted n)
       ↔ (TextFits part text array
-      × ((q e : ℕ) × EndAt (length array) text q e × (n ≡ length text) × (length text ≤ e + 1)))
+      × ((q e : ℕ) × EndAt (length array) text q e × HowMany (GivenBefore text q) (length array) n × (length text ≤ e + 1)))
   taken-text n = (
     λ g.
         let t = through-size part (length array) verdict second by-steps n g in
@@ -143,7 +142,7 @@ module _ (part : ℕ) (text array : List ℕ) where
       go true false c f = inr (inl (cc))
       go true true false f = let z : 11 ≡ k = cc in inr (inr (omega arith, omega arith))
       go true true true f =
-          let t = line-numbers (kind_of part).size text k p ((verdict-bad (lines (kind_of part).size text) (length text) k p).0 f) in
+          let t = line-numbers (kind_of part).size text k p ((verdict-bad (lines (kind_of part).size text) k p).0 f) in
           inr (inr (omega (arith, t.0), t.1))
 
 -- The claim for reading an image.

@@ -12,15 +12,18 @@ use Rattle.ground.specs.Verdict.{accepted, refused}
 use Rattle.ground.proofs.Verdicts.{apart}
 use Rattle.lines.specs.Lines.{lines_of}
 use Rattle.lines.proofs.LineLaws.{lines_none, lines-nil}
-use Rattle.cells.specs.Cells.{not_given}
+use Rattle.cells.specs.Cells.{not_given, given_in, settled_of}
 use Rattle.forms.specs.Reading.{Heard, gives, ends, faulty, says_of, Reading, taken, bad, line_by, lines_read}
 use Rattle.intel.specs.Intel.{intel}
 use Rattle.reader.specs.Answers.{verdict_of}
+use Rattle.reader.proofs.Readings.{bad-of}
+use Rattle.exactly.specs.Words.{HowMany}
 use Rattle.exactly.specs.Lines.{LineAt, characters_of}
 use Rattle.exactly.specs.Records.{WellFormed, SumsRight, TypeTaken, Beyond}
-use Rattle.exactly.specs.Faults.{Twice, GivesData, AllGive, FirstAt, EndAt}
+use Rattle.exactly.specs.Faults.{GivenBefore, Twice, GivesData, AllGive, FirstAt, EndAt}
 use Rattle.exactly.proofs.Lines.{three_ways, one_end}
 use Rattle.exactly.proofs.Cells.{Filled}
+use Rattle.exactly.proofs.Counts.{one-many, filled-many}
 use Rattle.exactly.proofs.Heard.{numbers, hear-twelve, hear-thirteen, hear-fourteen, hear-fifteen, hear-sixteen, hear-data, hear-end}
 use Rattle.exactly.proofs.Walk.{Walked, out, halt, walked}
 
@@ -28,14 +31,17 @@ use Rattle.exactly.proofs.Walk.{Walked, out, halt, walked}
 other-bad : (k p j q : ℕ) → bad k p ≡ bad j q → (k ≡ j) × (p ≡ q)
 other-bad k p j q e = (cc, cc)
 
-not_taken : (k p : ℕ) (array : List ℕ) → bad k p ≡ taken array → ⊥
-not_taken k p array e = let z : ◌≡◌ {A = ℕ} 0 1 = cc in omega arith
+not_taken : (k p : ℕ) (array : List ℕ) (n : ℕ) → bad k p ≡ taken array n → ⊥
+not_taken k p array n e = let z : ◌≡◌ {A = ℕ} 0 1 = cc in omega arith
 
 -- What the end line comes to, by what follows it.
-after-end : (p e : ℕ) (cells : List ℕ) (ls : List (List ℕ)) (rest : Reading)
-    → ((ls ≡ []) × ((array : List ℕ) × (line_by ends p (e + 1) cells ls rest ≡ taken array)))
+abbrev AfterEnd : ℕ → ℕ → List ℕ → List (List ℕ) → Reading → Type 0
+AfterEnd p e cells ls rest =
+    ((ls ≡ []) × (line_by ends p (e + 1) cells ls rest ≡ taken (settled_of cells) (given_in cells)))
     ⊎ ((ls ≡ [] → ⊥) × (line_by ends p (e + 1) cells ls rest ≡ bad 18 (e + 1)))
-after-end p e cells [] rest = inl (refl, (_, refl))
+
+after-end : (p e : ℕ) (cells : List ℕ) (ls : List (List ℕ)) (rest : Reading) → AfterEnd p e cells ls rest
+after-end p e cells [] rest = inl (refl, refl)
 after-end p e cells (l ∷ ls) rest = inr (λ z. let y : ◌≡◌ {A = ℕ} 0 1 = cc in omega arith, refl)
 
 module _ (size : ℕ) (text : List ℕ) where
@@ -70,13 +76,12 @@ module _ (size : ℕ) (text : List ℕ) where
     none : r ≡ bad 17 (length text) → AllGive size text (length text) → Came r
     fault : (k p e : ℕ) → r ≡ bad k p → Halted p e (faulty k) → Came r
     after : (q e : ℕ) → r ≡ bad 18 (e + 1) → Halted q e ends → e + 1 < length text → Came r
-    whole : (q e : ℕ) (array : List ℕ) → r ≡ taken array → Halted q e ends → length text ≤ e + 1 → Came r
+    whole : (q e : ℕ) (t : Halted q e ends) → r ≡ taken (settled_of t.cells) (given_in t.cells) → length text ≤ e + 1 → Came r
 
   ended : (q e : ℕ) → (t : Halted q e ends)
-      → ((lines_of (drop (e + 1) text) ≡ []) × ((array : List ℕ) × (line_by ends q (e + 1) t.cells (lines_of (drop (e + 1) text)) t.rest ≡ taken array)))
-      ⊎ ((lines_of (drop (e + 1) text) ≡ [] → ⊥) × (line_by ends q (e + 1) t.cells (lines_of (drop (e + 1) text)) t.rest ≡ bad 18 (e + 1)))
+      → AfterEnd q e t.cells (lines_of (drop (e + 1) text)) t.rest
       → Came lines
-  ended q e t (inl y) = whole q e y.1.0 (t.said ∙ y.1.1) t (nothing-after e y.0)
+  ended q e t (inl y) = whole q e t (t.said ∙ y.1) (nothing-after e y.0)
   ended q e t (inr y) = after q e (t.said ∙ y.1) t (something-after e y.0)
 
   came : Came lines
@@ -122,7 +127,7 @@ module _ (size : ℕ) (text : List ℕ) where
           let u = other-bad k p j q (sym g ∙ h) in
           (e, rw (u.0, u.1) t)
       go (after q e h t y) = let u = other-bad k p 18 (e + 1) (sym g ∙ h) in absurd (omega (arith, u.0))
-      go (whole q e array h t y) = absurd (not_taken k p array (sym g ∙ h))
+      go (whole q e t h y) = absurd (not_taken k p _ _ (sym g ∙ h))
 
   fault-back : (k p e : ℕ) → LineAt text p e → AllGive size text p → (GivesData size text p (characters_of text p e) → ⊥)
       → ((cells : List ℕ) → Filled size text p cells → says_of intel (eqb p 0) cells (characters_of text p e) ≡ faulty k)
@@ -185,7 +190,7 @@ module _ (size : ℕ) (text : List ℕ) where
       forth g (none h a) = ((other-bad 17 p 17 (length text) (sym g ∙ h)).1, a)
       forth g (fault j q e h t) = let u = other-bad 17 p j q (sym g ∙ h) in absurd (omega (arith, u.0, faulty-few q e j t))
       forth g (after q e h t y) = let u = other-bad 17 p 18 (e + 1) (sym g ∙ h) in absurd (omega (arith, u.0))
-      forth g (whole q e array h t y) = absurd (not_taken 17 p array (sym g ∙ h))
+      forth g (whole q e t h y) = absurd (not_taken 17 p _ _ (sym g ∙ h))
 
       back : p ≡ length text → AllGive size text (length text) → Walked size text lines → lines ≡ bad 17 p
       back z a (out h b) = h ∙ ap (bad 17) (sym z)
@@ -217,46 +222,41 @@ module _ (size : ℕ) (text : List ℕ) where
       forth g (after q e h t y) =
           let u = (other-bad 18 p 18 (e + 1) (sym g ∙ h)).1 in
           (q, e, end-at q e t, u, omega arith)
-      forth g (whole q e array h t y) = absurd (not_taken 18 p array (sym g ∙ h))
+      forth g (whole q e t h y) = absurd (not_taken 18 p _ _ (sym g ∙ h))
 
       back : (q e : ℕ) → EndAt size text q e → p ≡ e + 1 → p < length text → lines ≡ bad 18 p
       back q e x z k = let t = at-end q e x in go t (after-end q e t.cells (lines_of (drop (e + 1) text)) t.rest)
         where
           go : (t : Halted q e ends)
-              → ((lines_of (drop (e + 1) text) ≡ []) × ((array : List ℕ) × (line_by ends q (e + 1) t.cells (lines_of (drop (e + 1) text)) t.rest ≡ taken array)))
-              ⊎ ((lines_of (drop (e + 1) text) ≡ [] → ⊥) × (line_by ends q (e + 1) t.cells (lines_of (drop (e + 1) text)) t.rest ≡ bad 18 (e + 1)))
+              → AfterEnd q e t.cells (lines_of (drop (e + 1) text)) t.rest
               → lines ≡ bad 18 p
           go t (inl y) = let n = nothing-after e y.0 in absurd (omega arith)
           go t (inr y) = t.said ∙ y.1 ∙ ap (bad 18) (sym z)
 
-  pub whole-text : (n : ℕ) → (verdict_of lines (length text) ≡ accepted n)
-      ↔ ((q e : ℕ) × EndAt size text q e × (n ≡ length text) × (length text ≤ e + 1))
+  pub whole-text : (n : ℕ) → (verdict_of lines ≡ accepted n)
+      ↔ ((q e : ℕ) × EndAt size text q e × HowMany (GivenBefore text q) size n × (length text ≤ e + 1))
   whole-text n = (λ g. forth g came, λ h. back h.0 h.1 h.2 h.3 h.4)
     where
-      forth : verdict_of lines (length text) ≡ accepted n → Came lines
-          → (q e : ℕ) × EndAt size text q e × (n ≡ length text) × (length text ≤ e + 1)
-      forth g (none h a) =
-          let v : refused 17 (length text) ≡ accepted n = sym (ap (λ (x : Reading). verdict_of x (length text)) h) ∙ g in
-          absurd (apart 17 (length text) n v)
-      forth g (fault j q e h t) =
-          let v : refused j q ≡ accepted n = sym (ap (λ (x : Reading). verdict_of x (length text)) h) ∙ g in
-          absurd (apart j q n v)
-      forth g (after q e h t y) =
-          let v : refused 18 (e + 1) ≡ accepted n = sym (ap (λ (x : Reading). verdict_of x (length text)) h) ∙ g in
-          absurd (apart 18 (e + 1) n v)
-      forth g (whole q e array h t y) =
-          let v : accepted (length text) ≡ accepted n = sym (ap (λ (x : Reading). verdict_of x (length text)) h) ∙ g in
-          (q, e, end-at q e t, cc, y)
+      forth : verdict_of lines ≡ accepted n → Came lines
+          → (q e : ℕ) × EndAt size text q e × HowMany (GivenBefore text q) size n × (length text ≤ e + 1)
+      forth g (none h a) = absurd (apart 17 (length text) n (sym (ap verdict_of h) ∙ g))
+      forth g (fault j q e h t) = absurd (apart j q n (sym (ap verdict_of h) ∙ g))
+      forth g (after q e h t y) = absurd (apart 18 (e + 1) n (sym (ap verdict_of h) ∙ g))
+      forth g (whole q e t h y) =
+          let v : accepted (given_in t.cells) ≡ accepted n = sym (ap verdict_of h) ∙ g in
+          let z : given_in t.cells ≡ n = cc in
+          (q, e, end-at q e t, rw z at (filled-many size text q t.cells t.filled), y)
 
-      back : (q e : ℕ) → EndAt size text q e → n ≡ length text → length text ≤ e + 1 → verdict_of lines (length text) ≡ accepted n
-      back q e x z k = let t = at-end q e x in go t (after-end q e t.cells (lines_of (drop (e + 1) text)) t.rest)
+      back : (q e : ℕ) → EndAt size text q e → HowMany (GivenBefore text q) size n → length text ≤ e + 1 → verdict_of lines ≡ accepted n
+      back q e x m k = let t = at-end q e x in go t (after-end q e t.cells (lines_of (drop (e + 1) text)) t.rest)
         where
           go : (t : Halted q e ends)
-              → ((lines_of (drop (e + 1) text) ≡ []) × ((array : List ℕ) × (line_by ends q (e + 1) t.cells (lines_of (drop (e + 1) text)) t.rest ≡ taken array)))
-              ⊎ ((lines_of (drop (e + 1) text) ≡ [] → ⊥) × (line_by ends q (e + 1) t.cells (lines_of (drop (e + 1) text)) t.rest ≡ bad 18 (e + 1)))
-              → verdict_of lines (length text) ≡ accepted n
-          go t (inl y) = ap (λ (x : Reading). verdict_of x (length text)) (t.said ∙ y.1.1) ∙ ap accepted (sym z)
-          go t (inr y) = let m = something-after e y.0 in absurd (omega arith)
+              → AfterEnd q e t.cells (lines_of (drop (e + 1) text)) t.rest
+              → verdict_of lines ≡ accepted n
+          go t (inl y) =
+              ap verdict_of (t.said ∙ y.1)
+              ∙ ap accepted (one-many (GivenBefore text q) size _ n (filled-many size text q t.cells t.filled) m)
+          go t (inr y) = let o = something-after e y.0 in absurd (omega arith)
 
   -- Numbers of the lines.
   pub line-numbers : (k p : ℕ) → lines ≡ bad k p → (12 ≤ k) × (k ≤ 18)
@@ -269,9 +269,8 @@ module _ (size : ℕ) (text : List ℕ) where
           let v = numbers size text q t.cells (characters_of text q e) (eqb q 0) t.filled j t.heard in
           (omega (arith, v.0), omega (arith, v.1))
       go (after q e h t y) = let u = (other-bad k p 18 (e + 1) (sym g ∙ h)).0 in (omega arith, omega arith)
-      go (whole q e array h t y) = absurd (not_taken k p array (sym g ∙ h))
+      go (whole q e t h y) = absurd (not_taken k p _ _ (sym g ∙ h))
 
 -- A reading's verdict and the reading.
-pub verdict-bad : (r : Reading) (n k p : ℕ) → (verdict_of r n ≡ refused k p) ↔ (r ≡ bad k p)
-verdict-bad (taken array) n k p = (λ e. absurd (apart k p n (sym e)), λ e. absurd (not_taken k p array (sym e)))
-verdict-bad (bad j q) n k p = (λ e. cc, λ e. cc)
+pub verdict-bad : (r : Reading) (k p : ℕ) → (verdict_of r ≡ refused k p) ↔ (r ≡ bad k p)
+verdict-bad r k p = (bad-of r k p, λ e. ap verdict_of e)

@@ -8,10 +8,10 @@ use native.Mathlib.Omega.{arith}
 use lib.Dec.{eqb, leb}
 use lib.ListN.{length, get_or, take, drop, length-drop}
 use lib.Seq.{take-suc, take_all, get_or-drop, get_or-take, length-take-le}
-use borrow.Author.Tests.{eqb-true, eqb-false, eq-eqb, ne_eqb, leb-true, leb-false, le-leb, lt-leb}
+use borrow.Author.Tests.{eqb-true, eqb-false, eq-eqb, ne_eqb, leb-true, leb-false, le-leb, lt-leb, lt-ltb}
 use Rattle.ground.proofs.Tests.{and_split}
-use Rattle.digits.specs.Digits.{within, digit_of, is_digit}
-use Rattle.digits.proofs.DigitLaws.{within-true, digit-test}
+use Rattle.digits.specs.Digits.{digit_of, is_digit}
+use Rattle.digits.proofs.DigitLaws.{by_kind}
 use Rattle.hexfile.specs.Pairs.{pair_of, paired, pairs_of, sum_of, sums_to_zero}
 use Rattle.hexfile.proofs.PairLaws.{pair-split, length-pairs_of, sum-append}
 use Rattle.forms.specs.Reading.{fits_in}
@@ -21,31 +21,31 @@ use Rattle.exactly.proofs.Decides.{Decides, decides-by, decides_eq}
 
 -- Digits and their values.
 is_digit_lem : (c : ℕ) → is_digit c ≡ true → Digit c
-is_digit_lem c e = go (within 0x30 0x39 c) refl (within 0x41 0x46 c) refl (digit-test c refl refl ∙ e)
-  where
-    go : (a : Bool) → within 0x30 0x39 c ≡ a → (b : Bool) → within 0x41 0x46 c ≡ b → a || b ≡ true → Digit c
-    go true p b q h = inl (within-true 0x30 0x39 c p)
-    go false p true q h = inr (within-true 0x41 0x46 c q)
-    go false p false q h = absurd (true≢false (sym h))
-
-digit-is : (c : ℕ) → Digit c → is_digit c ≡ true
-digit-is c (inl h) = sym (digit-test c refl refl) ∙ rw (le-leb 0x30 c h.0, le-leb c 0x39 h.1)
-digit-is c (inr h) =
-    let k : 0x39 < c = omega (arith, h.0) in
-    let m : 0x30 ≤ c = omega (arith, h.0) in
-    sym (digit-test c refl refl) ∙ rw (le-leb 0x30 c m, lt-leb c 0x39 k, le-leb 0x41 c h.0, le-leb c 0x46 h.1)
+is_digit_lem c e =
+    by_kind (λ (x : ℕ). is_digit x ≡ true → Digit x) c (λ t d h. inl t) (λ t d h. inr (inl t)) (λ t s d h. inr (inr t))
+    (λ d h. absurd (true≢false (cc))) e
 
 digit_value : (c : ℕ) → Digit c → digit_of c ≡ value_at c
 unfolding digit_of
 digit_value c (inl h) = rw (le-leb 0x30 c h.0, le-leb c 0x39 h.1)
-digit_value c (inr h) =
+digit_value c (inr (inl h)) =
     let k : 0x39 < c = omega (arith, h.0) in
     let m : 0x30 ≤ c = omega (arith, h.0) in
     rw (le-leb 0x30 c m, lt-leb c 0x39 k, le-leb 0x41 c h.0, le-leb c 0x46 h.1)
+digit_value c (inr (inr h)) =
+    let k : 0x46 < c = omega (arith, h.0) in
+    let n : 0x39 < c = omega (arith, h.0) in
+    let m : 0x41 ≤ c = omega (arith, h.0) in
+    let i : 0x30 ≤ c = omega (arith, h.0) in
+    rw (le-leb 0x30 c i, lt-leb c 0x39 n, le-leb 0x41 c m, lt-leb c 0x46 k, le-leb 0x61 c h.0, le-leb c 0x66 h.1)
 
 value-small : (c : ℕ) → Digit c → value_at c < 16
 value-small c (inl h) = let a = h.0 in let b = h.1 in rw (le-leb c 0x39 b) (omega arith)
-value-small c (inr h) = let a = h.0 in let b = h.1 in rw (lt-leb c 0x39 (omega arith)) (omega arith)
+value-small c (inr (inl h)) = let a = h.0 in let b = h.1 in rw (lt-leb c 0x39 (omega arith), le-leb c 0x46 b) (omega arith)
+value-small c (inr (inr h)) = let a = h.0 in let b = h.1 in rw (lt-leb c 0x39 (omega arith), lt-leb c 0x46 (omega arith)) (omega arith)
+
+digit-is : (c : ℕ) → Digit c → is_digit c ≡ true
+digit-is c d = rw (digit_value c d) (lt-ltb (value_at c) 16 (value-small c d))
 
 -- Pairs are digits, an even number of them.
 paired-digits : (cs : List ℕ) → paired cs ≡ true → (i : ℕ) → i < length cs → Digit (get_or cs i 0)

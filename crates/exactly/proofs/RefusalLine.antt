@@ -99,20 +99,20 @@ one_line k p j q e = (
   sym (line-place k p) ∙ ap (λ (l : List ℕ). lead 0 (after l)) e ∙ line-place j q,
 )
 
--- A fixed form begins with a colon.
-rows-first : (n address : ℕ) (bs : List ℕ) → get_or (rows_text intel n address bs) 0 0 ≡ 0x3A
+-- A fixed form begins with a colon, whatever follows it.
+rows-first : (n address : ℕ) (bs more : List ℕ) → get_or (rows_text intel n address bs ++ more) 0 0 ≡ 0x3A
 unfolding record_line
-rows-first zero address bs = refl
-rows-first (suc n) address bs = go (blank_of (take 16 bs)) (rows-first n (address + 16) (drop 16 bs))
+rows-first zero address bs more = refl
+rows-first (suc n) address bs more = go (blank_of (take 16 bs)) (rows-first n (address + 16) (drop 16 bs) more)
   where
-    go : (b : Bool) → get_or (rows_text intel n (address + 16) (drop 16 bs)) 0 0 ≡ 0x3A
-        → get_or (row_by intel b address (take 16 bs) ++ rows_text intel n (address + 16) (drop 16 bs)) 0 0 ≡ 0x3A
+    go : (b : Bool) → get_or (rows_text intel n (address + 16) (drop 16 bs) ++ more) 0 0 ≡ 0x3A
+        → get_or ((row_by intel b address (take 16 bs) ++ rows_text intel n (address + 16) (drop 16 bs)) ++ more) 0 0 ≡ 0x3A
     go true h = h
     go false h = refl
 
-pub no_line_lem : (array : List ℕ) (k p : ℕ) → image_text intel array ≡ refusal_line k p → ⊥
+pub no_line_lem : (array more : List ℕ) (k p : ℕ) → image_text intel array ++ more ≡ refusal_line k p → ⊥
 unfolding image_text
-no_line_lem array k p e =
-    let f = rows-first (length array / 16) 0 array in
+no_line_lem array more k p e =
+    let f = rows-first (length array / 16) 0 array more in
     let g = ap (λ (l : List ℕ). get_or l 0 0) e in
     omega (arith, line_first k p, f, g)

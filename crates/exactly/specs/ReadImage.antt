@@ -6,9 +6,9 @@ use Rattle.ground.specs.declared.Reply.{Reply}
 use Rattle.ground.specs.declared.Reply.TheVariants.{Accepted, Refused}
 use Rattle.intel.specs.Intel.{intel}
 use Rattle.image.specs.Promises.{ReadsImage}
-use Rattle.exactly.specs.Words.{KnownPart, ByPart, SizeOf}
+use Rattle.exactly.specs.Words.{HowMany, KnownPart, ByPart, SizeOf}
 use Rattle.exactly.specs.Records.{WellFormed, SumsRight, TypeTaken, Gives, Beyond}
-use Rattle.exactly.specs.Faults.{Twice, AllGive, FirstAt, EndAt}
+use Rattle.exactly.specs.Faults.{GivenBefore, Twice, AllGive, FirstAt, EndAt}
 
 -- None of 1, 5 and 11 is due (Refusal numbers, 1, 5, 11).
 pub record TextFits (part : ℕ) (text array : List ℕ) : Type 0 where
@@ -60,11 +60,11 @@ pub record ReadImage : Type 0 where
   pub eighteen : (part : ℕ) (text array : List ℕ) (p : ℕ) (r : Reply) (array' : List ℕ) → ReadsImage intel part text array r array'
       → (r ≡ Refused 18 p)
       ↔ (TextFits part text array × ((q e : ℕ) × EndAt (length array) text q e × (p ≡ e + 1) × (p < length text)))
-  -- otherwise it is accepted, by our choice with the text's length
+  -- otherwise it is accepted, with the number of different addresses that the lines before the end line give
   pub accepted : (part : ℕ) (text array : List ℕ) (n : ℕ) (r : Reply) (array' : List ℕ) → ReadsImage intel part text array r array'
       → (r ≡ Accepted n)
       ↔ (TextFits part text array
-      × ((q e : ℕ) × EndAt (length array) text q e × (n ≡ length text) × (length text ≤ e + 1)))
+      × ((q e : ℕ) × EndAt (length array) text q e × HowMany (GivenBefore text q) (length array) n × (length text ≤ e + 1)))
   -- and no other number is given
   pub no_other : (part : ℕ) (text array : List ℕ) (k p : ℕ) (r : Reply) (array' : List ℕ) → ReadsImage intel part text array r array'
       → r ≡ Refused k p → (k ≡ 1) ⊎ ((k ≡ 5) ⊎ ((11 ≤ k) × (k ≤ 18)))

@@ -1,13 +1,13 @@
 -- What a line says by the characters at its places (document 01, Image files; Refusal numbers, 12 to 15).
 use Rattle.std.specs.Prelude.{ℕ, zero, suc, ◌+◌, ◌*◌, ◌-◌, ◌%◌, ◌≤◌, ◌<◌, cond, List, ◌⊎◌, ◌≡◌, leb, length, get_or}
 
--- 0 to 9 and A to F are digits (Image files, upper-case digits).
+-- 0 to 9, A to F and a to f are digits (Image files; request 2026-04, digits in either case).
 abbrev pub Digit : ℕ → Type 0
-Digit c = ((0x30 ≤ c) × (c ≤ 0x39)) ⊎ ((0x41 ≤ c) × (c ≤ 0x46))
+Digit c = ((0x30 ≤ c) × (c ≤ 0x39)) ⊎ (((0x41 ≤ c) × (c ≤ 0x46)) ⊎ ((0x61 ≤ c) × (c ≤ 0x66)))
 
--- The value of a digit (Image files, upper-case digits).
+-- The value of a digit (Image files; request 2026-04, digits in either case).
 abbrev pub value_at : ℕ → ℕ
-value_at c = cond (leb c 0x39) (c - 0x30) (c - 0x37)
+value_at c = cond (leb c 0x39) (c - 0x30) (cond (leb c 0x46) (c - 0x37) (c - 0x57))
 
 -- Byte n of a record: two digits, the higher first, behind the colon and the bytes before (Image files).
 unfoldable pub record_byte : List ℕ → ℕ → ℕ

@@ -1,7 +1,12 @@
 -- Conditions of the paper in its own numbers. They are written out here and taken from no other definition, so that a limit that is bent
 -- elsewhere no longer fits (document 01, Refusal numbers; State and time, ranges).
-use Rattle.std.specs.Prelude.{ℕ, ◌/◌, ◌%◌, ◌≤◌, ◌⊎◌, ◌≡◌}
+use Rattle.std.specs.Prelude.{ℕ, zero, suc, ◌/◌, ◌%◌, ◌≤◌, ◌⊎◌, ◌≡◌}
 use Rattle.part.specs.declared.state.State.{State}
+
+-- So many of the numbers below a bound are such (request 2026-04, how many different addresses).
+abbrev pub HowMany : (ℕ → Type 0) → ℕ → ℕ → Type 0
+HowMany Such zero n = n ≡ 0
+HowMany Such (suc k) n = (Such k × ((m : ℕ) × (n ≡ suc m) × HowMany Such k m)) ⊎ ((¬ Such k) × HowMany Such k n)
 
 -- The numbers of the smaller parts (Refusal numbers, 1).
 abbrev pub SmallPart : ℕ → Type 0

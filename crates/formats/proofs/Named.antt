@@ -20,7 +20,7 @@ use Rattle.formats.specs.declared.Format.TheVariants.{Intel}
 pub hears-named : (f : Format) (first : Bool) (line cells cells' : List ℕ) (r : Says) → HearsLine intel true line cells r cells'
     → HearsLine (form_of f) first line cells r cells'
 unfolding form_of says_of
-hears-named Intel first line cells cells' r h = record { said = h.said; kept = h.kept }
+hears-named Intel first line cells cells' r h = record { said = h.said; kept = h.kept; counted = h.counted }
 
 -- A record's line has 12 characters beside those of its data, its line feed included.
 pub length-record : (address type : ℕ) (bs : List ℕ) → length (closed (record_line address type bs)) ≡ 12 + 2 * length bs

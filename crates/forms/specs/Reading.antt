@@ -1,7 +1,7 @@
 -- Reading an image of any form of record, line after line (document 01, Image files; Refusal numbers, 11 to 18).
 use Rattle.std.specs.Prelude.{ℕ, ◌+◌, Bool, true, false, ◌||◌, List, [], ◌∷◌, ◌++◌, eqb, leb, length, take, drop, replicate}
 use Rattle.lines.specs.Lines.{lines_of, trimmed}
-use Rattle.cells.specs.Cells.{not_given, fresh_of, give_of, settled_of}
+use Rattle.cells.specs.Cells.{not_given, fresh_of, give_of, given_in, settled_of}
 use Rattle.forms.specs.Form.{Form}
 use Rattle.forms.specs.declared.Says.{Says}
 use Rattle.forms.specs.declared.Says.TheVariants.{Gives, Ends, Faulty}
@@ -18,9 +18,15 @@ pub data Heard : Type 0 where
 
 -- What each case of the code's answer to a line says in the paper's numbers (Refusal numbers, 12 to 16).
 abbrev pub says_meant : Says → Heard
-says_meant Gives = gives
+says_meant (Gives n) = gives
 says_meant Ends = ends
 says_meant (Faulty k) = faulty k
+
+-- How many bytes the code's answer says that a line gives (request 2026-04, how many addresses).
+abbrev pub says_count : Says → ℕ
+says_count (Gives n) = n
+says_count Ends = 0
+says_count (Faulty k) = 0
 
 -- Refusals 12 to 16 in numeric order; a line without fault ends the image or gives its data (Refusal numbers, 12 to 16).
 abbrev pub says_by : Bool → Bool → Bool → Bool → Bool → Bool → Heard
@@ -55,15 +61,16 @@ says_of form first cells l =
 unfoldable pub given_of : Form → List ℕ → List ℕ → List ℕ
 given_of form cells l = placed_of (form.address l) (form.content l) cells
 
--- What a text gives: an array, or a refusal number with its place (Image files; Refusal numbers, 11 to 18).
+-- What a text gives: an array and how many addresses it gave, or a refusal number with its place (Image files; Refusal numbers, 11 to 18;
+-- request 2026-04).
 pub data Reading : Type 0 where
-  taken : List ℕ → Reading
+  taken : List ℕ → ℕ → Reading
   bad : ℕ → ℕ → Reading
 
 -- A faulty line is refused at its place, any byte after the end line is 18 at the first; data go on (Refusal numbers, 12 to 18).
 abbrev pub line_by : Heard → ℕ → ℕ → List ℕ → List (List ℕ) → Reading → Reading
 line_by (faulty k) place next cells ls rest = bad k place
-line_by ends place next cells [] rest = taken (settled_of cells)
+line_by ends place next cells [] rest = taken (settled_of cells) (given_in cells)
 line_by ends place next cells (l ∷ ls) rest = bad 18 next
 line_by gives place next cells ls rest = rest
 

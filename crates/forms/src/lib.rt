@@ -4,10 +4,10 @@ ghost use Rattle.forms.specs.Parts.{Places};
 // Bytes in a row, and so in each record that the writer makes.
 pub const ROW: usize = 16;
 
-// A sound line gives data or ends the image; any other is refused with a number.
+// A sound line gives so many bytes or ends the image; any other is refused with a number.
 #[derive(Drop)]
 pub enum Says {
-    Gives,
+    Gives(usize),
     Ends,
     Faulty(u8),
 }
@@ -17,7 +17,7 @@ pub fn place(address: usize, bytes: &[u8], cells: &mut [u16]) -> Says
     ensures { Places address bytes.now cells.old result cells.new }
 {
     if bytes.len() == 0 {
-        return Says::Gives;
+        return Says::Gives(0);
     }
     if address > cells.len() {
         return Says::Faulty(15);
@@ -26,7 +26,7 @@ pub fn place(address: usize, bytes: &[u8], cells: &mut [u16]) -> Says
         return Says::Faulty(15);
     }
     if cells::give(&mut cells[address..], bytes) {
-        return Says::Gives;
+        return Says::Gives(bytes.len());
     }
     Says::Faulty(16)
 }

@@ -3,12 +3,12 @@ use Rattle.std.proofs.Common.{◌≡◌, ℕ, zero, suc, ◌+◌, ◌-◌, ◌*�
 use native.Mathlib.Nat.{min-eq_left, pow-le-pow_right}
 use borrow.Author.Tests.{eqb-false}
 use Rattle.codes.specs.Codes.{hash}
-use Rattle.digits.specs.Digits.{within}
+use Rattle.digits.specs.Digits.{within, digit_of}
 use Rattle.lines.specs.Lines.{line_feed}
 use Rattle.tokens.specs.Tokens.{blank, line_by}
 use Rattle.tokens.specs.Parts.{solid, FindsWord}
 use Rattle.tokens.proofs.TokenLaws.{blank-above, goes-here, pass-turn, word-turn, finds-word}
-use Rattle.words.specs.Words.{decimal_base, figure_of, all_figures, numeral, figures_value}
+use Rattle.words.specs.Words.{decimal_base, all_figures, numeral, figures_value}
 use Rattle.words.proofs.WordLaws.{digit-figure, numeral-some}
 use Rattle.wires.specs.Wires.{marks_of}
 use Rattle.wires.specs.Times.{highest_time, no_time, time_of}
@@ -93,25 +93,25 @@ sees-value dump table from line t inside small h above byte e f some =
 
 -- A number with one more digit behind it.
 figures-more : (xs : List ℕ) (k : ℕ) → k < length xs
-    → figures_value decimal_base (take (suc k) xs) ≡ figures_value decimal_base (take k xs) * decimal_base + figure_of (get_or xs k 0)
+    → figures_value decimal_base (take (suc k) xs) ≡ figures_value decimal_base (take k xs) * decimal_base + digit_of (get_or xs k 0)
 figures-more [] k h = absurd (omega arith)
 figures-more (c ∷ cs) zero h = omega arith
 figures-more (c ∷ cs) (suc k) h =
     let i = figures-more cs k (omega arith) in
     let m : length (take (suc k) cs) ≡ suc k = length-take-le (suc k) cs (omega arith) in
     let n : length (take k cs) ≡ k = length-take-le k cs (omega arith) in
-    rw (m, n, pow-suc decimal_base k, ← mul_assoc (figure_of c) (decimal_base ^ k) decimal_base, i) (omega arith)
+    rw (m, n, pow-suc decimal_base k, ← mul_assoc (digit_of c) (decimal_base ^ k) decimal_base, i) (omega arith)
 
 more_by : (b x y : Bool) → b && x ≡ true → (x ≡ true → y ≡ true) → b && y ≡ true
 more_by true x y e f = f e
 more_by false x y e f = e
 
-digits_more : (xs : List ℕ) (k : ℕ) → k < length xs → figure_of (get_or xs k 0) < decimal_base
+digits_more : (xs : List ℕ) (k : ℕ) → k < length xs → digit_of (get_or xs k 0) < decimal_base
     → all_figures decimal_base (take k xs) ≡ true → all_figures decimal_base (take (suc k) xs) ≡ true
 digits_more [] k h d e = absurd (omega arith)
-digits_more (c ∷ cs) zero h d e = rw (lt-ltb (figure_of c) decimal_base d)
+digits_more (c ∷ cs) zero h d e = rw (lt-ltb (digit_of c) decimal_base d)
 digits_more (c ∷ cs) (suc k) h d e =
-    more_by (ltb (figure_of c) decimal_base) _ _ e (λ f. digits_more cs k (omega arith) d f)
+    more_by (ltb (digit_of c) decimal_base) _ _ e (λ f. digits_more cs k (omega arith) d f)
 
 -- So many digits behind a hash, and their value, which fits a word.
 pub record Reads (dump : List ℕ) (from value i : ℕ) : Type 0 where
@@ -146,7 +146,7 @@ module _ (dump : List ℕ) (from : ℕ) (inside : from + 12 ≤ length dump) whe
         let m : from + 1 + i + 1 - from ≡ suc (suc i) = omega arith in
         let s = word-turn dump from (from + 1 + i) (omega arith) (omega arith) (blank-above c (omega arith)) refl (rw n r.whole) in
         let a = r.low in
-        let told : figure_of c ≡ digit = omega arith in
+        let told : digit_of c ≡ digit = omega arith in
         record {
           few = omega arith;
           low = rw (add-one i, pow-suc decimal_base i) (omega arith);

@@ -9,9 +9,9 @@ use lib.ListN.{length, get_or, drop, set}
 use lib.Seq.{drop-cons, sets}
 use borrow.Author.Tests.{ltb-true}
 use Rattle.ground.specs.Numbers.{byte_values}
-use Rattle.digits.specs.Digits.{base, digit_of, is_digit, glyph_of}
+use Rattle.digits.specs.Digits.{base, digit_of, is_digit, glyph_of, capital_of, capitals_of}
 use Rattle.hexfile.specs.Pairs.{pair_of, paired, pairs_of, text_of, sum_of}
-use Rattle.digits.proofs.DigitLaws.{glyph-written, glyph-digit}
+use Rattle.digits.proofs.DigitLaws.{glyph-written, glyph-digit, capital-digit}
 use Rattle.ground.proofs.Tests.{and_split}
 
 -- The byte of two digits is one.
@@ -50,16 +50,27 @@ pair-glyphs a b x y h k p q =
     let low : (x * base + y) % base ≡ y = omega arith in
     (rw high p, rw low q)
 
--- Pairs of digits read as bytes and written again are the text that was read.
-pub text-pairs : (cs : List ℕ) → paired cs ≡ true → text_of (pairs_of cs) ≡ cs
+-- Pairs of digits read as bytes and written again are the upper-case twin of the text that was read.
+pub text-pairs : (cs : List ℕ) → paired cs ≡ true → text_of (pairs_of cs) ≡ capitals_of cs
 text-pairs [] e = refl
 text-pairs (a ∷ []) e = absurd (true≢false (cc))
 text-pairs (a ∷ b ∷ cs) e =
     let d = pair-split a b cs e in
     let x = ltb-true (digit_of a) base d.0 in
     let y = ltb-true (digit_of b) base d.1 in
-    let t = pair-glyphs a b (digit_of a) (digit_of b) x y (glyph-digit a d.0) (glyph-digit b d.1) in
+    let t = pair-glyphs (capital_of a) (capital_of b) (digit_of a) (digit_of b) x y (glyph-digit a d.0) (glyph-digit b d.1) in
     rw (t.0, t.1, text-pairs cs d.2)
+
+-- A text and its upper-case twin are the same pairs.
+pub capital-paired : (cs : List ℕ) → paired (capitals_of cs) ≡ paired cs
+capital-paired [] = refl
+capital-paired (a ∷ []) = refl
+capital-paired (a ∷ b ∷ cs) = rw (capital-digit a, capital-digit b, capital-paired cs)
+
+pub capital-pairs : (cs : List ℕ) → pairs_of (capitals_of cs) ≡ pairs_of cs
+capital-pairs [] = refl
+capital-pairs (a ∷ []) = refl
+capital-pairs (a ∷ b ∷ cs) = rw (capital-digit a, capital-digit b, capital-pairs cs)
 
 -- Two characters from an index on, and what follows them.
 pub two : (cs : List ℕ) (at : ℕ) → at + 2 ≤ length cs

@@ -14,7 +14,8 @@ use Rattle.ground.specs.declared.Reply.{Reply}
 use Rattle.ground.specs.declared.Reply.TheVariants.{Accepted, Refused}
 use Rattle.ground.specs.declared.kinds.Kind.{Kind}
 use Rattle.ground.proofs.Tests.{not-zero}
-use Rattle.cells.specs.Cells.{not_given}
+use Rattle.cells.specs.Cells.{not_given, given_in}
+use Rattle.cells.proofs.CellLaws.{given-none}
 use Rattle.forms.specs.Form.{Form}
 use Rattle.forms.specs.Reading.{most_text, reading_of}
 use Rattle.forms.specs.Writing.{image_text, length_of, most_length, Measured}
@@ -28,6 +29,10 @@ none_first : (n m : ℕ) → n ≤ m → take n (replicate m not_given) ≡ repl
 none_first zero m h = refl
 none_first (suc n) zero h = absurd (omega arith)
 none_first (suc n) (suc m) h = ap (λ (l : List ℕ). not_given ∷ l) (none_first n m (omega arith))
+
+-- So no address is given at first.
+pub none-given : (n m : ℕ) → n ≤ m → given_in (take n (replicate m not_given)) ≡ 0
+none-given n m h = rw (none_first n m h) (given-none n)
 
 -- Room for any number of cells that is enough gives the reading over as many as the array has bytes.
 pub reads_over : (form : Form) (m : ℕ) (text array array' : List ℕ) (r : Reply) → length array ≤ m

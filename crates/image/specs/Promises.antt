@@ -24,7 +24,7 @@ image_of form part text array = image_by (known part) (sized part (length array)
 
 -- Reading an image: its verdict, and the array that the text gives (Refusal numbers, 1, 5, 11 to 18; Image files).
 pub record ReadsImage (form : Form) (part : ℕ) (text array : List ℕ) (r : Reply) (array' : List ℕ) : Type 0 where
-  pub reply : meant r ≡ verdict_of (image_of form part text array) (length text)
+  pub reply : meant r ≡ verdict_of (image_of form part text array)
   pub kept : array' ≡ array_after (image_of form part text array) array
 
 -- Refusals 1, 5 and 19 in numeric order, else the length written (Refusal numbers, 1, 5, 19; Image files, it answers the length).

@@ -1,1 +1,1 @@
-// No function: the bench cases of image files. specs/ says it, proofs/ shows it.
+// No function: the bench cases of image files, and files in lower case. specs/ says it, proofs/ shows it.

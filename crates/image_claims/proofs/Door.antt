@@ -10,6 +10,7 @@ use Rattle.ground.specs.declared.Reply.TheVariants.{Accepted, Refused}
 use Rattle.intel.specs.Intel.{intel}
 use Rattle.reader.specs.Answers.{verdict_of, array_after}
 use Rattle.image.specs.Promises.{image_of, ReadsImage, WritesImage}
+use Rattle.image_claims.specs.Trip.{rows_give}
 use Rattle.image_claims.specs.Images.{WriteThenRead, DoorTrip}
 
 -- The reply that says a verdict.
@@ -35,12 +36,12 @@ door-from trip =
           let x : WritesImage intel part array out (Accepted n) out' =
           record { reply = reply-means (accepted n) ∙ sym v; said = w.said ∙ rw d }
           in
-          let y : ReadsImage intel part text old (reply_of (verdict_of reading (length text))) (array_after reading old) =
-          record { reply = reply-means (verdict_of reading (length text)); kept = refl }
+          let y : ReadsImage intel part text old (reply_of (verdict_of reading)) (array_after reading old) =
+          record { reply = reply-means (verdict_of reading); kept = refl }
           in
-          let z = trip.back part array out out' old (array_after reading old) (Accepted n) (reply_of (verdict_of reading (length text)))
+          let z = trip.back part array out out' old (array_after reading old) (Accepted n) (reply_of (verdict_of reading))
           n b x (reply-means (accepted n)) o y
           in
-          let t : verdict_of reading (length text) ≡ accepted n = sym (reply-means (verdict_of reading (length text))) ∙ z.reply in
+          let t : verdict_of reading ≡ accepted (rows_give part array) = sym (reply-means (verdict_of reading)) ∙ z.reply in
           (w.answer ∙ rw d, q.answer ∙ rw h, q.kept ∙ rw h z.same, w.reply ∙ rw (d, v), q.reply ∙ rw (h, t));
     }

@@ -7,14 +7,20 @@ use Rattle.forms.proofs.Lengths.{length-image, length_most}
 use Rattle.intel.specs.Intel.{intel}
 use Rattle.formats.proofs.Named.{length-record, intel-measured}
 use Rattle.round_trip.proofs.RoundTrip.{round_trip}
+use Rattle.round_trip.proofs.Counted.{counted}
+use Rattle.round_trip.proofs.Twins.{twins-alike}
 use Rattle.intel_trip.proofs.IntelSound.{intel-sound}
+use Rattle.intel_trip.proofs.IntelTwins.{intel-blind}
 use Rattle.image_cases.proofs.ImageCases.{p10}
-use Rattle.image_claims.specs.Images.{RoundTrips, IntelTrips, Lengths, WriteThenRead, DoorTrip, Tidies, TidyTwice, RoomEnough}
+use Rattle.image_claims.specs.Images.{RoundTrips, IntelTrips, Lengths, WriteThenRead, DoorTrip}
+use Rattle.image_claims.specs.Images.{Tidies, TidyTwice, RoomEnough, CountsGiven, EitherCase}
 use Rattle.image_claims.specs.AtPaper.{AtPaper}
 use Rattle.image_claims.proofs.Trips.{intel-from}
 use Rattle.image_claims.proofs.Door.{door-from}
 use Rattle.image_claims.proofs.Operations.{write-from}
 use Rattle.image_claims.proofs.Tidied.{tidies-from, twice-from}
+use Rattle.image_claims.proofs.Counts.{counts-from}
+use Rattle.image_claims.proofs.Either.{either-from}
 use Rattle.image_claims.proofs.AtPaper.{room-from, paper-from}
 
 -- The round trip in every sound form of record.
@@ -59,6 +65,14 @@ tidy-twice = twice-from tidies
 pub room-enough : RoomEnough
 room-enough = room-from lengths
 
+-- The count that is answered.
+pub counts-given : CountsGiven
+counts-given = counts-from counted intel-sound tidies
+
+-- Digits in either case.
+pub either-case : EitherCase
+either-case = either-from twins-alike intel-blind
+
 -- All of it at the paper's image.
 pub at-paper : AtPaper
-at-paper = paper-from p10 intel-trips door-trip tidies tidy-twice room-enough
+at-paper = paper-from p10 intel-trips door-trip tidies tidy-twice room-enough counts-given either-case

@@ -1,6 +1,9 @@
 pub mod AtPaper
+pub mod Counts
 pub mod Door
+pub mod Either
 pub mod Operations
+pub mod Refusals
 pub mod Tidied
 pub mod Trips
 pub mod Images

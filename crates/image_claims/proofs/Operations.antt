@@ -1,10 +1,10 @@
 -- An image that was written reads back: where writing accepts an array of bytes, reading accepts what was written,
--- answers the same length, and leaves the same array, whatever stood there before. It rests on the two operations'
+-- answers 16 addresses for each row written, and leaves the same array, whatever stood there before. It rests on the two operations'
 -- promises and on the claims that it names.
 use Prim.Native.Nat.{ℕ}
 use mathlib.Core.Bool.{Bool, true, false, true≢false}
 use mathlib.Core.List.{List, ◌++◌}
-use mathlib.Core.Path.{◌≡◌, refl, ap, sym, subst, ◌∙◌}
+use mathlib.Core.Path.{◌≡◌, refl, sym, subst, ◌∙◌}
 use lib.Dec.{leb}
 use lib.ListN.{length, take, drop}
 use lib.Seq.{take_at}
@@ -12,13 +12,14 @@ use borrow.Author.Tests.{eqb-true, eq-eqb}
 use Rattle.ground.specs.Kind.{kind_of, known}
 use Rattle.ground.specs.Verdict.{accepted, meant}
 use Rattle.ground.specs.declared.Reply.{Reply}
+use Rattle.cells.specs.Bytes.{all_bytes}
 use Rattle.forms.specs.Reading.{taken, reading_of}
 use Rattle.forms.specs.Writing.{image_text, length_of, most_length}
 use Rattle.intel.specs.Intel.{intel}
 use Rattle.image.specs.Promises.{sized, image_of, write_by, write_verdict, WritesImage}
 use Rattle.image.proofs.Sizes.{kind-rows}
-use Rattle.round_trip.specs.Words.{all_bytes, Rows}
-use Rattle.image_claims.specs.Trip.{part_rows}
+use Rattle.round_trip.specs.Words.{Rows}
+use Rattle.image_claims.specs.Trip.{part_rows, rows_give}
 use Rattle.image_claims.specs.Images.{IntelTrips, Lengths, WriteThenRead}
 use Rattle.image_claims.proofs.Trips.{part-trip}
 
@@ -67,12 +68,13 @@ module _ (lengths : Lengths) (part : ℕ) (array out out' : List ℕ) (r : Reply
 
 -- The fixed form of a part's array gives it, whatever is there before.
 image-gives : IntelTrips → (part : ℕ) (array old : List ℕ) → known part ≡ true → length array ≡ (kind_of part).size → all_bytes array ≡ true
-    → length old ≡ (kind_of part).size → image_of intel part (image_text intel array) old ≡ taken array
+    → length old ≡ (kind_of part).size → image_of intel part (image_text intel array) old ≡ taken array (rows_give part array)
 unfolding image_of
 image-gives trips part array old k s b o =
     let r : Rows (part_rows part) array = record { size = s ∙ sym (kind-rows part); bytes = b } in
-    let g : reading_of intel (kind_of part).size (image_text intel array) ≡ taken array =
-    subst (λ (size : ℕ). reading_of intel size (image_text intel array) ≡ taken array) (kind-rows part) ((part-trip trips part).reads-back array r) in
+    let g : reading_of intel (kind_of part).size (image_text intel array) ≡ taken array (rows_give part array) =
+    subst (λ (size : ℕ). reading_of intel size (image_text intel array) ≡ taken array (rows_give part array)) (kind-rows part)
+    ((part-trip trips part).reads-back array r) in
     rw (k, eq-eqb (length old) (kind_of part).size o) g
 
 -- Written and read back, for any part: bytes that a write accepted are what a read of the text leaves.
@@ -81,9 +83,8 @@ write-from trips lengths =
     record {
       back = λ part array out out' old array' r r₂ n b w e o q.
           let t : take n out' ≡ image_text intel array = written-text lengths part array out out' r n w e in
-          let l : length (take n out') ≡ n = ap length t ∙ written-length lengths part array out out' r n w e in
           let k = written_known lengths part array out out' r n w e in
           let s = written-size lengths part array out out' r n w e in
-          let g : image_of intel part (take n out') old ≡ taken array = rw t (image-gives trips part array old k s b o) in
-          record { same = q.kept ∙ (rw g); reply = q.reply ∙ (rw (g, l)) };
+          let g : image_of intel part (take n out') old ≡ taken array (rows_give part array) = rw t (image-gives trips part array old k s b o) in
+          record { same = q.kept ∙ (rw g); reply = q.reply ∙ (rw g) };
     }

@@ -18,6 +18,7 @@ use Rattle.ground.proofs.Rows.{tail-whole}
 use Rattle.intel.specs.Intel.{bytes_in, count_of, record_address, type_of, data_of, well_formed, typed, intel}
 use Rattle.forms.specs.Reading.{given_of, says_of}
 use Rattle.forms.specs.Parts.{Places, HearsLine}
+use Rattle.forms.proofs.Placed.{fault-none, end_none}
 use Rattle.intel.specs.Parts.{Forms, record_says, Judges}
 use Rattle.forms.specs.declared.Says.{Says}
 use Rattle.forms.specs.declared.Says.TheVariants.{Ends, Faulty}
@@ -25,7 +26,7 @@ use Rattle.forms.specs.declared.Says.TheVariants.{Ends, Faulty}
 -- Bytes of a type that is not taken.
 pub judge-untyped : (bs cells : List ℕ) → sums_to_zero bs ≡ true → typed bs ≡ false → Judges bs cells (Faulty 14) cells
 unfolding record_says
-judge-untyped bs cells s t = record { said = rw (s, t); kept = refl }
+judge-untyped bs cells s t = record { said = rw (s, t); kept = refl; counted = fault-none 14 }
 
 -- The end record has no count.
 end-count : (bs : List ℕ) → typed bs ≡ true → type_of bs ≡ 1 → count_of bs ≡ 0
@@ -40,7 +41,7 @@ unfolding record_says
 judge-end bs cells s t y =
     let n : count_of bs ≡ 0 = end-count bs t y in
     let d : data_of bs ≡ [] = rw n in
-    record { said = rw (s, t, d, y, fresh-nil (drop (record_address bs) cells)); kept = refl }
+    record { said = rw (s, t, d, y, fresh-nil (drop (record_address bs) cells)); kept = refl; counted = end_none }
 
 -- The bytes of a data record say what its data do at its address.
 pub judge-placed : (bs cells cells' : List ℕ) (r : Says) → sums_to_zero bs ≡ true → typed bs ≡ true
@@ -50,7 +51,7 @@ unfolding record_says
 judge-placed bs cells cells' r s t y m q =
     let d : length bs - 1 - 4 ≡ count_of bs = omega arith in
     let p : Places (record_address bs) (data_of bs) cells r cells' = rw d at q in
-    record { said = rw (s, t, ne_eqb (type_of bs) 1 y) p.said; kept = p.kept }
+    record { said = rw (s, t, ne_eqb (type_of bs) 1 y) p.said; kept = p.kept; counted = p.counted }
 
 -- A count is a byte.
 count_fits : (cs : List ℕ) → paired cs ≡ true → get_or (pairs_of cs) 0 0 < 256
@@ -189,16 +190,16 @@ module _ (text room : List ℕ) (n : ℕ) (h : n ≤ length text) (f : Forms (ta
   unfolding says_of
   hear-unsound room' cells u t =
       let s : sums_to_zero (bytes_in (take n text)) ≡ false = rw line-bytes at (sym u.said ∙ t) in
-      record { said = rw (sym f.said, s); kept = refl }
+      record { said = rw (sym f.said, s); kept = refl; counted = fault-none 13 }
 
   pub hear-formed : (room' cells cells' : List ℕ) (r : Says) {b : Bool} → SumsUp room (n / 2) b room'
       → Judges (take (n / 2) room') cells r cells' → HearsLine intel true (take n text) cells r cells'
   unfolding says_of given_of record_says
   hear-formed room' cells cells' r u j =
       let k : Judges (bytes_in (take n text)) cells r cells' = rw (u.bytes, line-bytes) at j in
-      record { said = rw (sym f.said) k.said; kept = k.kept }
+      record { said = rw (sym f.said) k.said; kept = k.kept; counted = k.counted }
 
 -- A line that is not well formed.
 pub hear-unformed : (line room cells : List ℕ) → Forms line false room → HearsLine intel true line cells (Faulty 12) cells
 unfolding says_of
-hear-unformed line room cells f = record { said = rw (sym f.said); kept = refl }
+hear-unformed line room cells f = record { said = rw (sym f.said); kept = refl; counted = fault-none 12 }

@@ -3,7 +3,7 @@ use Rattle.std.specs.Prelude.{ℕ, ◌/◌, Bool, true, List, ◌≡◌, eqb, le
 use Rattle.hexfile.specs.Pairs.{sums_to_zero}
 use Rattle.cells.specs.Cells.{fresh_of}
 use Rattle.forms.specs.Reading.{Heard, says_meant, says_by, fits_in, placed_of}
-use Rattle.forms.specs.Parts.{cells_by}
+use Rattle.forms.specs.Parts.{cells_by, CountsMore}
 use Rattle.forms.specs.declared.Says.{Says}
 use Rattle.intel.specs.Intel.{end_type, bytes_in, record_address, type_of, data_of, well_formed, typed}
 
@@ -23,7 +23,8 @@ record_says cells formed bs =
     (fresh_of (drop (record_address bs) cells) (data_of bs))
     (eqb (type_of bs) end_type)
 
--- The bytes of a well-formed line whose checksum is right: what they say, and the cells after them.
+-- The bytes of a well-formed line whose checksum is right: what they say, the cells after them, and how many they give.
 pub record Judges (bs cells : List ℕ) (r : Says) (cells' : List ℕ) : Type 0 where
   pub said : says_meant r ≡ record_says cells true bs
   pub kept : cells' ≡ cells_by (says_meant r) cells (placed_of (record_address bs) (data_of bs) cells) cells'
+  pub counted : CountsMore cells r cells'

@@ -47,15 +47,14 @@ intel-sound =
       row = λ address row h n b.
           record-row address row (record { count = omega arith; address = h; type = omega arith; bytes = b });
       end = record-end;
-      row_back = λ first l j e n.
-          let y = is-data (bytes_in l) j.typed e in (
-            line-back l j.formed j.summed
-                ∙ ap (λ (t : ℕ). record_line (record_address (bytes_in l)) t (data_of (bytes_in l))) y,
-            data-bytes l j.formed,
-          );
-      end_back = λ first l j e.
+      bytes = λ first l j. data-bytes l j.formed;
+      none = λ first l j e. rw (is-end (bytes_in l) j.typed (eqb-true (type_of (bytes_in l)) end_type e)).0;
+      row_back = λ first l j u e n.
+          let y = is-data (bytes_in l) j.typed e in
+          line-back l j.formed j.summed u ∙ ap (λ (t : ℕ). record_line (record_address (bytes_in l)) t (data_of (bytes_in l))) y;
+      end_back = λ first l j u e.
           let y = eqb-true (type_of (bytes_in l)) end_type e in
           let z = is-end (bytes_in l) j.typed y in
           let d : data_of (bytes_in l) ≡ [] = rw z.0 in
-          line-back l j.formed j.summed ∙ rw (y, z.1, d);
+          line-back l j.formed j.summed u ∙ rw (y, z.1, d);
     }

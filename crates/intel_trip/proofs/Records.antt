@@ -10,13 +10,13 @@ use lib.ListN.{length, length-append}
 use lib.Seq.{take-append_seam}
 use borrow.Author.Tests.{lt-ltb, eq-eqb}
 use Rattle.ground.specs.Numbers.{byte_values}
+use Rattle.cells.specs.Bytes.{all_bytes}
 use Rattle.hexfile.specs.Pairs.{text_of, sums_to_zero, check_of}
 use Rattle.hexfile.proofs.PairLaws.{length-text_of}
 use Rattle.intel.specs.Intel.{colon, data_type, end_type, characters_in, bytes_in, count_of, record_address, type_of, data_of, well_formed, typed, fields_of, record_line, intel}
-use Rattle.round_trip.specs.Words.{all_bytes}
 use Rattle.round_trip.specs.Sound.{Written, SaysRow, SaysEnd}
 use Rattle.round_trip.proofs.Tests.{bytes-append}
-use Rattle.intel_trip.proofs.Spelling.{pairs-text, paired-text, text-feeds, text-returns, checked, check_sound}
+use Rattle.intel_trip.proofs.Spelling.{pairs-text, paired-text, text-feeds, text-returns, text-capitals, checked, check_sound}
 
 -- The line of bytes: a colon and their digits.
 abbrev pub line_of : List ℕ → List ℕ
@@ -92,6 +92,7 @@ module _ (a t : ℕ) (d : List ℕ) (w : Writable a t d) where
       record {
         feeds = text-feeds (record_bytes a t d) record-bytes;
         returns = text-returns (record_bytes a t d) record-bytes;
+        capitals = text-capitals (record_bytes a t d) record-bytes;
         judged = λ first. record {
           formed = record-formed;
           summed = ap sums_to_zero record-read ∙ check_sound (fields_of a t d);

@@ -1,21 +1,24 @@
--- A line that is well formed and whose bytes sum to 0 modulo 256 is the record that the writer
+-- A line in upper case that is well formed and whose bytes sum to 0 modulo 256 is the record that the writer
 -- makes of the address, the type and the data that the line states. Assumes nothing.
 use Prim.Native.Nat.{ℕ, suc, ◌+◌, ◌*◌, ◌/◌, ◌%◌, ◌<◌}
-use mathlib.Core.Bool.{true, true≢false, ◌&&◌}
+use mathlib.Core.Bool.{true, not, true≢false, ◌&&◌}
 use mathlib.Core.List.{List, [], ◌∷◌, ◌++◌}
-use mathlib.Core.Path.{◌≡◌, ap, sym, subst, ◌∙◌}
+use mathlib.Core.Path.{◌≡◌, refl, ap, sym, subst, ◌∙◌}
 use native.Mathlib.Omega.{arith}
 use lib.Dec.{eqb}
 use lib.ListN.{length, get_or, take, drop}
 use lib.Seq.{length-take-le, take-suc, take_all}
 use borrow.Author.Tests.{eqb-true}
 use Rattle.ground.specs.Numbers.{byte_values}
+use Rattle.digits.specs.Digits.{is_small, capitals_of}
+use Rattle.digits.proofs.DigitLaws.{capital-same}
+use Rattle.cells.specs.Bytes.{all_bytes}
 use Rattle.hexfile.specs.Pairs.{paired, pairs_of, text_of, sums_to_zero}
-use Rattle.ground.proofs.Tests.{and_split}
+use Rattle.ground.proofs.Tests.{and_split, not-held}
 use Rattle.hexfile.proofs.PairLaws.{length-pairs_of, text-pairs}
 use Rattle.intel.specs.Intel.{colon, characters_in, bytes_in, count_of, record_address, type_of, data_of, well_formed, fields_of, record_line}
-use Rattle.round_trip.specs.Words.{all_bytes}
-use Rattle.round_trip.proofs.Tests.{bytes-at, bytes-parts}
+use Rattle.round_trip.specs.Words.{no_small}
+use Rattle.round_trip.proofs.Tests.{all-parts, bytes-at, bytes-parts}
 use Rattle.intel_trip.proofs.Spelling.{pairs-bytes, checked, check-last}
 use Rattle.intel_trip.proofs.Records.{record_bytes}
 
@@ -77,14 +80,22 @@ data-bytes l e =
     let a = pairs-bytes (drop 1 l) (formed l e).pairs in
     (bytes-parts (count_of (bytes_in l)) (drop 4 (bytes_in l)) (bytes-parts 4 (bytes_in l) a).1).0
 
--- A sound line is the record that the writer makes of what the line states.
-pub line-back : (l : List ℕ) → well_formed l ≡ true → sums_to_zero (bytes_in l) ≡ true
+-- A text in upper case is its own twin.
+capitals-same : (cs : List ℕ) → no_small cs ≡ true → capitals_of cs ≡ cs
+capitals-same [] e = refl
+capitals-same (c ∷ cs) e =
+    let t = and_split (not (is_small c)) (no_small cs) e in
+    rw (capital-same c (not-held (is_small c) t.0), capitals-same cs t.1)
+
+-- A sound line in upper case is the record that the writer makes of what the line states.
+pub line-back : (l : List ℕ) → well_formed l ≡ true → sums_to_zero (bytes_in l) ≡ true → no_small l ≡ true
     → l ≡ record_line (record_address (bytes_in l)) (type_of (bytes_in l)) (data_of (bytes_in l))
 unfolding bytes_in record_line
-line-back l e s =
+line-back l e s n =
     let t = formed l e in
     let a = pairs-bytes (drop 1 l) t.pairs in
-    let b = text-pairs (drop 1 l) t.pairs in
+    let u = (all-parts (λ c. not (is_small c)) 1 l n).1 in
+    let b : text_of (pairs_of (drop 1 l)) ≡ drop 1 l = text-pairs (drop 1 l) t.pairs ∙ capitals-same (drop 1 l) u in
     t.opened
     ∙ ap (λ (r : List ℕ). colon ∷ r) (sym b)
     ∙ ap (λ (r : List ℕ). colon ∷ text_of r) (fields_back (bytes_in l) a t.sized s)

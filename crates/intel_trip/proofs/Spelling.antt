@@ -1,18 +1,20 @@
 -- Bytes spelled as pairs of digits read back, and pairs of digits that are read are bytes; bytes with their checksum
 -- are sound, and the last of sound bytes is the checksum of those before it. Assumes nothing.
-use Prim.Native.Nat.{ℕ, ◌+◌, ◌/◌, ◌%◌, ◌<◌}
-use mathlib.Core.Bool.{true}
+use Prim.Native.Nat.{ℕ, ◌+◌, ◌/◌, ◌%◌, ◌≤◌, ◌<◌}
+use mathlib.Core.Bool.{Bool, true, not}
 use mathlib.Core.List.{List, [], ◌∷◌, ◌++◌}
 use mathlib.Core.Path.{◌≡◌, refl}
 use native.Mathlib.Omega.{arith}
+use lib.Dec.{eqb}
 use borrow.Author.Tests.{lt-ltb, eqb-true, eq-eqb, ne_eqb}
 use Rattle.ground.specs.Numbers.{byte_values}
-use Rattle.digits.specs.Digits.{base, glyph_of}
+use Rattle.digits.specs.Digits.{base, is_small, glyph_of}
 use Rattle.lines.specs.Lines.{line_feed, carriage_return}
 use Rattle.hexfile.specs.Pairs.{pair_of, paired, pairs_of, text_of, sum_of, sums_to_zero, check_of}
-use Rattle.digits.proofs.DigitLaws.{Written, glyph-written}
+use Rattle.digits.proofs.DigitLaws.{Written, glyph-written, not-small}
 use Rattle.hexfile.proofs.PairLaws.{pair_fits, pair-split, pair-byte, sum-append}
-use Rattle.round_trip.specs.Words.{all_bytes, no_return, no_feed}
+use Rattle.cells.specs.Bytes.{each_is, all_bytes}
+use Rattle.round_trip.specs.Words.{no_return, no_feed, no_small}
 use Rattle.round_trip.proofs.Tests.{bytes-cons}
 
 -- What is known of a byte before others: it is one, its two digits are as they are written, and the others are bytes.
@@ -51,27 +53,24 @@ paired-text (b ∷ bs) e =
       paired-text bs s.rest,
     )
 
--- No line feed stands in them.
-pub text-feeds : (bs : List ℕ) → all_bytes bs ≡ true → no_feed (text_of bs) ≡ true
-text-feeds [] e = refl
-text-feeds (b ∷ bs) e =
+-- A test holds of all of them that holds of the characters from 0 to F.
+text-each : (t : ℕ → Bool) → ((c : ℕ) → 0x30 ≤ c → c ≤ 0x46 → t c ≡ true) → (bs : List ℕ) → all_bytes bs ≡ true → each_is t (text_of bs) ≡ true
+text-each t f [] e = refl
+text-each t f (b ∷ bs) e =
     let s = spelled b bs e in
-    rw (
-      ne_eqb (glyph_of (b / base)) line_feed (omega arith),
-      ne_eqb (glyph_of (b % base)) line_feed (omega arith),
-      text-feeds bs s.rest,
-    )
+    let high = f (glyph_of (b / base)) s.high.low s.high.high in
+    let low = f (glyph_of (b % base)) s.low.low s.low.high in
+    rw (high, low, text-each t f bs s.rest)
 
--- No carriage return stands in them.
+-- So no line feed stands in them, no carriage return, and no digit in lower case.
+pub text-feeds : (bs : List ℕ) → all_bytes bs ≡ true → no_feed (text_of bs) ≡ true
+text-feeds = text-each (λ c. not (eqb c line_feed)) (λ c h k. rw (ne_eqb c line_feed (omega arith)))
+
 pub text-returns : (bs : List ℕ) → all_bytes bs ≡ true → no_return (text_of bs) ≡ true
-text-returns [] e = refl
-text-returns (b ∷ bs) e =
-    let s = spelled b bs e in
-    rw (
-      ne_eqb (glyph_of (b / base)) carriage_return (omega arith),
-      ne_eqb (glyph_of (b % base)) carriage_return (omega arith),
-      text-returns bs s.rest,
-    )
+text-returns = text-each (λ c. not (eqb c carriage_return)) (λ c h k. rw (ne_eqb c carriage_return (omega arith)))
+
+pub text-capitals : (bs : List ℕ) → all_bytes bs ≡ true → no_small (text_of bs) ≡ true
+text-capitals = text-each (λ c. not (is_small c)) (λ c h k. rw (not-small c (omega arith)))
 
 -- Pairs of digits that are read are bytes.
 pub pairs-bytes : (cs : List ℕ) → paired cs ≡ true → all_bytes (pairs_of cs) ≡ true

@@ -1,14 +1,13 @@
 -- Laws of the lines of places: those of joined places, and what writing them one after the other does. Assumes nothing.
-use Prim.Native.Nat.{ℕ, suc, ◌+◌, ◌*◌, ◌≤◌, ◌<◌}
+use Prim.Native.Nat.{ℕ, ◌+◌, ◌*◌, ◌≤◌, ◌<◌}
 use mathlib.Core.Bool.{Bool, true, false}
 use mathlib.Core.List.{List, [], ◌∷◌, ◌++◌, append_assoc}
 use mathlib.Core.Path.{◌≡◌, refl, ap, sym, ◌∙◌}
-use native.Mathlib.Numerals.{add-one}
 use native.Mathlib.Omega.{arith}
-use lib.ListN.{length, get_or, drop, set, length-append, length-set, drop_of_length-le}
+use lib.ListN.{length, get_or, drop, length-append, drop_of_length-le}
 use lib.Seq.{sets, length-sets}
 use Rattle.ground.proofs.Rows.{sets-append}
-use Rattle.texts.specs.Numbers.{decimal_of}
+use Rattle.texts.specs.Numbers.{number_line}
 use Rattle.texts.specs.Laying.{Starts, Lays}
 use Rattle.texts.proofs.Starting.{starts-laid}
 use Rattle.places.specs.Places.{disagrees, places_from}
@@ -18,7 +17,7 @@ use Rattle.listing.specs.Listing.{places_text}
 -- Joined places have the lines of the first, then those of the second.
 pub text-append : (ks ls : List ℕ) → places_text (ks ++ ls) ≡ places_text ks ++ places_text ls
 text-append [] ls = refl
-text-append (k ∷ ks) ls = rw (append_assoc (decimal_of k) (10 ∷ places_text ks) (places_text ls), text-append ks ls)
+text-append (k ∷ ks) ls = rw (text-append ks ls) (sym (append_assoc (number_line k) (places_text ks) (places_text ls)))
 
 -- A listing that has come to an index: what is left to write gives the whole.
 pub record Writing (ls answers : List ℕ) (first : ℕ) (out₀ out : List ℕ) (at i : ℕ) : Type 0 where
@@ -51,24 +50,23 @@ module _ (ls answers : List ℕ) (first : ℕ) (out₀ : List ℕ) where
         starts-laid t out₀ out at s n (omega arith)
 
     module _ (h : i < length ls) (k : i < length answers) where
-      -- A place that disagrees is written, and a line feed behind it.
+      -- A place that disagrees is written on its line.
       pub turn-written : (b : Bool) (row out' : List ℕ) (r at' : ℕ) → b ≡ disagrees (get_or ls i 0) (get_or answers i 0) → b ≡ true
-          → Lays (decimal_of (first + i)) out at r row → r ≤ at + 20 → out' ≡ set row r 10 → at' ≡ r + 1
+          → Lays (number_line (first + i)) out at r row → r ≤ at + 21 → out' ≡ row → at' ≡ r
           → Writing ls answers first out₀ out' at' (i + 1)
       turn-written b row out' r at' e t w m o f =
-          let d = decimal_of (first + i) in
+          let l = number_line (first + i) in
           let rest = places_text (places_from (first + (i + 1)) (drop (i + 1) ls) (drop (i + 1) answers)) in
           let p = left-cons ls answers first i h k true (sym t ∙ e) in
-          let q : length (d ++ (10 ∷ rest)) ≡ length d + suc (length rest) = length-append d (10 ∷ rest) in
-          let c : at + length (d ++ (10 ∷ rest)) ≡ length (places_text (places_from first ls answers)) = rw p at g.count in
-          let s : sets out at (d ++ (10 ∷ rest)) ≡ sets out₀ 0 (places_text (places_from first ls answers)) = rw p at g.said in
-          let x : row ≡ sets out at d = w.laid in
+          let q : length (l ++ rest) ≡ length l + length rest = length-append l rest in
+          let c : at + length (l ++ rest) ≡ length (places_text (places_from first ls answers)) = rw p at g.count in
+          let s : sets out at (l ++ rest) ≡ sets out₀ 0 (places_text (places_from first ls answers)) = rw p at g.said in
           record {
             within = omega arith;
             few = omega (arith, g.few);
-            long = rw o (length-set row r 10 ∙ ap length x ∙ length-sets out at d ∙ g.long);
+            long = rw o (ap length w.laid ∙ length-sets out at l ∙ g.long);
             count = omega (arith, w.next);
-            said = rw (o, f, add-one r, x) (sets-append d (10 ∷ rest) out at r w.next ∙ s);
+            said = rw (o, f, w.laid) (sets-append l rest out at r w.next ∙ s);
           }
 
       -- Any other sample changes nothing.

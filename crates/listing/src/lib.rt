@@ -17,9 +17,7 @@ pub fn put_places(levels: &[u8], answers: &[u8], first: usize, out: &mut [u8]) -
     let mut i = 0;
     while i < levels.len() {
         if places::disagree(levels[i], answers[i]) {
-            at = numbers::put_decimal((first + i) as u64, out, at);
-            out[at] = lines::LINE_FEED;
-            at += 1;
+            at = numbers::put_line((first + i) as u64, out, at);
         }
         i += 1;
     }

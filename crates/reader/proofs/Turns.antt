@@ -9,12 +9,12 @@ use lib.Seq.{drop-drop, take-take}
 use Rattle.lines.specs.Lines.{line_at, no_line, lines_of, first_line, trimmed, step_meant, line_step_of}
 use Rattle.lines.specs.declared.Line.{Line}
 use Rattle.lines.specs.declared.Line.TheVariants.{At, End}
-use Rattle.cells.specs.Cells.{settled_of}
+use Rattle.cells.specs.Cells.{given_in, settled_of}
 use Rattle.lines.proofs.LineLaws.{first-take, lines_cons, lines_none, line-fits, trim-take, trim-length}
 use Rattle.ground.specs.Verdict.{meant}
 use Rattle.ground.specs.declared.Reply.TheVariants.{Accepted, Refused}
 use Rattle.forms.specs.Form.{Form}
-use Rattle.forms.specs.Reading.{Heard, says_meant, taken, bad, given_of, says_of, line_by, lines_read}
+use Rattle.forms.specs.Reading.{Heard, says_meant, says_count, taken, bad, given_of, says_of, line_by, lines_read}
 use Rattle.forms.specs.Parts.{HearsLine}
 use Rattle.reader.specs.Parts.{ReadsLines}
 use Rattle.forms.specs.declared.Says.{Says}
@@ -96,11 +96,11 @@ module _ (form : Form) where
   unfolding meant
   lines-refused text cells cells' k p e = record { reply = rw e; kept = rw e }
 
-  pub lines-accepted : (text cells cells' : List ℕ)
-      → lines_read form (length text) 0 cells (lines_of text) ≡ taken (settled_of cells')
-      → ReadsLines form text cells (Accepted (length text)) cells'
+  pub lines-accepted : (text cells cells' : List ℕ) (n : ℕ)
+      → lines_read form (length text) 0 cells (lines_of text) ≡ taken (settled_of cells') (given_in cells') → n ≡ given_in cells'
+      → ReadsLines form text cells (Accepted n) cells'
   unfolding meant
-  lines-accepted text cells cells' e = record { reply = rw e; kept = rw e }
+  lines-accepted text cells cells' n e f = record { reply = rw (e, f); kept = rw e }
 
 -- A line that was found in a text and heard.
 module _ (form : Form) (text cells cells' : List ℕ) (at t f : ℕ) (r : Says) (w : Found text at t f)
@@ -111,11 +111,20 @@ module _ (form : Form) (text cells cells' : List ℕ) (at t f : ℕ) (r : Says) 
   turn =
       turn-line form (length text) at (f + 1) cells _ _ _ _ (says_meant r) w.lines w.line (ap (λ (n : ℕ). n + 1) w.place) h.said
 
-  -- If it gives data, the lines after it are left.
-  pub turn-gives : r ≡ Gives
+  -- If it gives data, the lines after it are left, and so many more cells are given.
+  pub turn-gives : (n : ℕ) → r ≡ Gives n
       → lines_read form (length text) at cells (lines_of (drop at text))
       ≡ lines_read form (length text) (f + 1) cells' (lines_of (drop (f + 1) text))
-  turn-gives e = turn ∙ rw (h.kept, e)
+  turn-gives n e = turn ∙ rw (h.kept, e)
+
+  pub turn-given : (n : ℕ) → r ≡ Gives n → given_in cells' ≡ given_in cells + n
+  turn-given n e = h.counted (ap says_meant e) ∙ ap (λ (s : Says). given_in cells + says_count s) e
+
+  -- The end gives nothing more.
+  pub turn_last : r ≡ Ends → given_in cells' ≡ given_in cells
+  turn_last e =
+      let same : cells' ≡ cells = h.kept ∙ rw e in
+      ap given_in same
 
   -- A faulty line is refused at its place.
   pub turn-faulty : (k : ℕ) → r ≡ Faulty k → lines_read form (length text) at cells (lines_of (drop at text)) ≡ bad k at
@@ -127,5 +136,5 @@ module _ (form : Form) (text cells cells' : List ℕ) (at t f : ℕ) (r : Says) 
   turn-after e n = turn ∙ rw (e, lines_cons (drop (f + 1) text) (simp length-drop (omega arith)))
 
   pub turn-ends : r ≡ Ends → length text ≤ f + 1
-      → lines_read form (length text) at cells (lines_of (drop at text)) ≡ taken (settled_of cells')
+      → lines_read form (length text) at cells (lines_of (drop at text)) ≡ taken (settled_of cells') (given_in cells')
   turn-ends e n = turn ∙ rw (h.kept, e, lines_none (drop (f + 1) text) (simp length-drop (omega arith)))

@@ -67,11 +67,11 @@ fn put_report(
 ) -> bool
     requires { length array.old ≡ (kind_of part).size }
 {
-    let opened = replaying::start(part, select, stored, image, dump, array);
-    let reply = opened.reply;
+    let started = replaying::start(part, select, stored, image, dump, array);
+    let reply = started.reply;
     match reply {
         Reply::Refused { number, place } => put_refusal(number, place),
-        Reply::Accepted(_) => put_places(dump, opened.stand, array),
+        Reply::Accepted(_) => put_places(dump, started.stand, array),
     }
 }
 

@@ -8,11 +8,11 @@ use Rattle.pieces.specs.Marks.{left_from}
 use Rattle.places.specs.Places.{places_in, part_after_all}
 use Rattle.texts.specs.Laying.{Starts}
 use Rattle.disagreements.specs.declared.Stand.{Stand}
-use Rattle.disagreements.specs.declared.Opened.{Opened}
 use Rattle.disagreements.specs.Promises.{part_of_stand, Stands}
+use Rattle.replaying.specs.declared.Started.{Started}
 use Rattle.replaying.specs.declared.Told.{Told}
 use Rattle.listing.specs.Listing.{places_text}
-use Rattle.replaying.specs.Shown.{start_verdict, given_by}
+use Rattle.replaying.specs.Shown.{start_verdict, given_by, image_count}
 
 -- A dump that may be replayed: the part at power-up with the image in its array, before the first of the samples.
 pub record Ready (part select stored : ℕ) (image dump : List ℕ) (s : Stand) (array : List ℕ) : Type 0 where
@@ -21,9 +21,11 @@ pub record Ready (part select stored : ℕ) (image dump : List ℕ) (s : Stand) 
   pub next : s.next ≡ 0
   pub stands : Stands dump s array
 
--- All that the program is given, judged (2026-03, refused first, with their own place).
-pub record Readies (part select stored : ℕ) (image dump : List ℕ) (r : Opened) (array : List ℕ) : Type 0 where
+-- All that the program is given, judged, and how many addresses the image gave (2026-03, refused first, with their own place; 2026-04, every
+-- caller hands it on).
+pub record Readies (part select stored : ℕ) (image dump : List ℕ) (r : Started) (array : List ℕ) : Type 0 where
   pub reply : meant r.reply ≡ start_verdict part select stored image dump
+  pub addresses : r.addresses ≡ image_count part select stored image
   pub ready : (n : ℕ) → start_verdict part select stored image dump ≡ accepted n → Ready part select stored image dump r.stand array
 
 -- One piece told: a line for each of its places, and the stand behind it (2026-03, piece after piece; one place a line).

@@ -6,8 +6,16 @@ ghost use Rattle.ground.specs.Kind.{kind_of};
 ghost use Rattle.disagreements.specs.Promises.{Stands};
 ghost use Rattle.replaying.specs.Promises.{Readies, Tells};
 
-use disagreements::{Opened, Stand};
+use disagreements::Stand;
 use ground::Reply;
+
+// The reply to all that is given, where the replay begins, and how many addresses the image gave: 0 where it is refused or not read.
+#[derive(Drop)]
+pub struct Started {
+    pub reply: Reply,
+    pub stand: Stand,
+    pub addresses: usize,
+}
 
 // What was written of a piece, and where the dump is left.
 #[derive(Drop)]
@@ -25,7 +33,7 @@ pub fn start(
     image: &[u8],
     dump: &[u8],
     array: &mut [u8],
-) -> Opened
+) -> Started
     requires { length array.old ≡ (kind_of part).size }
     ensures { Readies part select stored image.now dump.now result array.new }
 {
@@ -34,13 +42,26 @@ pub fn start(
     let powered = twin::power_up(part, select, stored);
     let reply = powered.reply;
     let Reply::Accepted(_) = reply else {
-        return Opened { reply, stand };
+        return Started {
+            reply,
+            stand,
+            addresses: 0,
+        };
     };
     let read = image::read_image(part, image, array);
-    let Reply::Accepted(_) = read else {
-        return Opened { reply: read, stand };
+    let Reply::Accepted(addresses) = read else {
+        return Started {
+            reply: read,
+            stand,
+            addresses: 0,
+        };
     };
-    opened
+    let judged = opened.reply;
+    Started {
+        reply: judged,
+        stand,
+        addresses,
+    }
 }
 
 // The same as `tell`, with the rows and the room for the text as slices.

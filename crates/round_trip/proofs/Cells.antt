@@ -8,13 +8,13 @@ use native.Mathlib.Omega.{arith}
 use lib.Dec.{ltb}
 use lib.ListN.{length, replicate, length-append, length-take, length-drop, replicate-append-replicate}
 use lib.Seq.{take_at, drop_at}
-use borrow.Author.Tests.{lt-ltb}
+use borrow.Author.Tests.{lt-ltb, ne_eqb}
 use Rattle.ground.specs.Numbers.{byte_values}
-use Rattle.cells.specs.Cells.{not_given, byte_by, settled_of, blank_of}
+use Rattle.cells.specs.Bytes.{all_bytes}
+use Rattle.cells.specs.Cells.{not_given, given_in, byte_by, settled_of, blank_of}
 use Rattle.cells.proofs.CellLaws.{length-give_of, settled-none, give-front, blank-same}
 use Rattle.forms.specs.Form.{Form, row_size}
 use Rattle.forms.specs.Reading.{given_of}
-use Rattle.round_trip.specs.Words.{all_bytes}
 use Rattle.round_trip.proofs.Tests.{bytes-cons}
 
 -- Cells settle to bytes.
@@ -30,6 +30,13 @@ settled-bytes (c ∷ cs) = rw (settles (ltb c not_given) refl) (settled-bytes cs
 pub settled_same : (bs : List ℕ) → all_bytes bs ≡ true → settled_of bs ≡ bs
 settled_same [] e = refl
 settled_same (b ∷ bs) e = let t = bytes-cons b bs e in rw (lt-ltb b not_given t.0, settled_same bs t.1)
+
+-- They are all given.
+pub given-bytes : (bs : List ℕ) → all_bytes bs ≡ true → given_in bs ≡ length bs
+given-bytes [] e = refl
+given-bytes (b ∷ bs) e =
+    let t = bytes-cons b bs e in
+    rw (ne_eqb b not_given (λ z. omega (arith, t.0, z)), given-bytes bs t.1) (omega arith)
 
 -- Cells that are not given settle to bytes all FFh.
 pub settled-blank : (bs : List ℕ) → blank_of bs ≡ true → settled_of (replicate (length bs) not_given) ≡ bs

@@ -6,3 +6,5 @@ pub mod Written
 pub mod RowsBack
 pub mod WrittenBack
 pub mod RoundTrip
+pub mod Counted
+pub mod Twins

@@ -13,15 +13,16 @@ use lib.Seq.{take_at, drop_at}
 use borrow.Author.Tests.{eqb-true, leb-true, le-leb, not-true}
 use Rattle.ground.proofs.Tests.{and_split}
 use Rattle.lines.specs.Lines.{line_feed, trimmed}
+use Rattle.cells.specs.Bytes.{all_bytes}
 use Rattle.cells.specs.Cells.{not_given, blank_byte, settled_of, blank_of}
 use Rattle.cells.proofs.CellLaws.{length-settled_of, settled-append, settled-none}
 use Rattle.forms.specs.Form.{Form, row_size}
 use Rattle.forms.specs.Reading.{Reading, taken, says_of, given_of, lines_read}
 use Rattle.forms.specs.Writing.{closed, row_by, rows_text}
-use Rattle.round_trip.specs.Words.{all_bytes, no_return}
+use Rattle.round_trip.specs.Words.{no_return, no_small}
 use Rattle.round_trip.specs.Sound.{Sound}
 use Rattle.round_trip.specs.RoundTrip.{row_line, fixed_lines}
-use Rattle.round_trip.proofs.Tests.{returns-split}
+use Rattle.round_trip.proofs.Tests.{returns-split, smalls-split}
 use Rattle.round_trip.proofs.Texts.{joined, trimmed-same}
 use Rattle.round_trip.proofs.Cells.{settled_same, more_rows, given-next}
 use Rattle.round_trip.proofs.Heeded.{Heeded, heeds-gives, heeds-ends, last-said, line-said, row_inside}
@@ -44,11 +45,13 @@ rows-blank form (suc k) address =
 pub record Stands (form : Form) (k address : ℕ) (front : List ℕ) (ls : List (List ℕ)) (array : List ℕ) : Type 0 where
   pub total : ℕ
   pub place : ℕ
+  pub count : ℕ
   pub reached : length front ≡ address
   pub even : address % row_size ≡ 0
   pub fixed : fixed_lines form address ls ≡ true
   pub plain : no_return (joined ls) ≡ true
-  pub read : lines_read form total place (front ++ replicate (k * row_size) not_given) ls ≡ taken array
+  pub capitals : no_small (joined ls) ≡ true
+  pub read : lines_read form total place (front ++ replicate (k * row_size) not_given) ls ≡ taken array count
 
 -- The array is what was settled and the rows of a text.
 pub record Rest (form : Form) (k address : ℕ) (front array text : List ℕ) : Type 0 where
@@ -95,13 +98,15 @@ row_of form address l e =
 record First (form : Form) (k address : ℕ) (front l : List ℕ) (ls : List (List ℕ)) (array : List ℕ) : Type 0 where
   total : ℕ
   place : ℕ
+  count : ℕ
   row : Row form address l
   bytes : all_bytes (form.content l) ≡ true
   fits : form.address l + row_size ≤ address + k * row_size
   line : l ≡ form.row (form.address l) (form.content l)
   fixed : fixed_lines form (form.address l + row_size) ls ≡ true
   plain : no_return (joined ls) ≡ true
-  read : lines_read form total place (given_of form (front ++ replicate (k * row_size) not_given) l) ls ≡ taken array
+  capitals : no_small (joined ls) ≡ true
+  read : lines_read form total place (given_of form (front ++ replicate (k * row_size) not_given) l) ls ≡ taken array count
 
 module _ (form : Form) (sound : Sound form) where
   -- The end line alone: no row is left that is given.
@@ -113,9 +118,10 @@ module _ (form : Form) (sound : Sound form) where
       let next : ℕ = s.place + length l + 1 in
       let at0 : Bool = eqb s.place 0 in
       let same : trimmed l ≡ l = trimmed-same l (returns-split l (line_feed ∷ []) s.plain).0 in
-      let said = last-said (says_of form at0 cells (trimmed l)) s.place next 17 s.total cells array s.read in
-      let h : Heeded form at0 (length cells) l true = heeds-ends form at0 cells l (rw same at said.0) in
-      let t : joined (l ∷ []) ≡ closed form.end = ap closed (sound.end_back at0 l h.judged h.ending) in
+      let upper : no_small l ≡ true = (smalls-split l (line_feed ∷ []) s.capitals).0 in
+      let said = last-said (says_of form at0 cells (trimmed l)) s.place next 17 s.total cells array s.count s.read in
+      let h : Heeded form at0 cells l true = heeds-ends form at0 cells l (rw same at said.0) in
+      let t : joined (l ∷ []) ≡ closed form.end = ap closed (sound.end_back at0 l h.judged upper h.ending) in
       record {
         tail = replicate (k * row_size) blank_byte;
         whole = said.1 ∙ settled-append front none ∙ (rw (settled-none (k * row_size)));
@@ -131,25 +137,27 @@ module _ (form : Form) (sound : Sound form) where
       let next : ℕ = s.place + length l + 1 in
       let at0 : Bool = eqb s.place 0 in
       let p = returns-split l (line_feed ∷ joined (m ∷ ls)) s.plain in
+      let u = smalls-split l (line_feed ∷ joined (m ∷ ls)) s.capitals in
       let same : trimmed l ≡ l = trimmed-same l p.0 in
       let rest : Reading = lines_read form s.total next (given_of form cells (trimmed l)) (m ∷ ls) in
-      let said = line-said (says_of form at0 cells (trimmed l)) s.place next cells m ls rest array s.read in
-      let h : Heeded form at0 (length cells) l false = heeds-gives form at0 cells l (rw same at said.0) in
+      let said = line-said (says_of form at0 cells (trimmed l)) s.place next cells m ls rest array s.count s.read in
+      let h : Heeded form at0 cells l false = heeds-gives form at0 cells l (rw same at said.0) in
       let after : Bool = fixed_lines form (form.address l + row_size) (m ∷ ls) in
       let f = and_split (row_line form address l) after s.fixed in
       let r = row_of form address l f.0 in
       let size : length cells ≡ address + k * row_size = length-append front none ∙ (rw (s.reached, length-replicate)) in
       let i = row_inside (length cells) (form.address l) (length (form.content l)) h.place r.count in
-      let back = sound.row_back at0 l h.judged h.ending r.count in
       record {
         total = s.total;
         place = next;
+        count = s.count;
         row = r;
-        bytes = back.1;
+        bytes = sound.bytes at0 l h.judged;
         fits = omega arith;
-        line = back.0;
+        line = sound.row_back at0 l h.judged u.0 h.ending r.count;
         fixed = f.1;
         plain = p.1;
+        capitals = u.1;
         read = rw same at said.1;
       }
 
@@ -164,10 +172,12 @@ module _ (form : Form) (sound : Sound form) where
         record {
           total = f.total;
           place = f.place;
+          count = f.count;
           reached = length-append front (form.content l) ∙ (rw (s.reached, f.row.count));
           even = omega arith;
           fixed = rw e f.fixed;
           plain = f.plain;
+          capitals = f.capitals;
           read = rw (given-next form front l k (s.reached ∙ e) f.row.count) at f.read;
         }
 
@@ -199,11 +209,13 @@ module _ (form : Form) (sound : Sound form) where
         record {
           total = s.total;
           place = s.place;
+          count = s.count;
           reached = length-append front gap ∙ (rw s.reached);
           even = omega arith;
           fixed = rw q at s.fixed;
           plain = s.plain;
-          read = subst (λ (cs : List ℕ). lines_read form s.total s.place cs (l ∷ m ∷ ls) ≡ taken array) c s.read;
+          capitals = s.capitals;
+          read = subst (λ (cs : List ℕ). lines_read form s.total s.place cs (l ∷ m ∷ ls) ≡ taken array s.count) c s.read;
         }
 
     -- The first row is not given, and left out.

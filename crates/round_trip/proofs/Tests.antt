@@ -1,6 +1,6 @@
--- Laws of tests that hold of a whole list: numbers that are bytes, texts without a carriage return. Assumes nothing.
+-- Laws of tests that hold of a whole list: numbers that are bytes, texts without a carriage return or a digit in lower case. Assumes nothing.
 use Prim.Native.Nat.{ℕ, zero, suc, ◌<◌}
-use mathlib.Core.Bool.{Bool, true, false, not, ◌&&◌}
+use mathlib.Core.Bool.{Bool, true, not, ◌&&◌}
 use mathlib.Core.List.{List, [], ◌∷◌, ◌++◌}
 use mathlib.Core.Path.{◌≡◌, refl, ap, sym, ◌∙◌}
 use lib.Dec.{eqb, ltb}
@@ -10,22 +10,15 @@ use Rattle.ground.specs.Numbers.{byte_values}
 use Rattle.lines.specs.Lines.{line_feed, carriage_return}
 use Rattle.lines.proofs.LineLaws.{Plain}
 use Rattle.ground.proofs.Tests.{and_split}
-use Rattle.round_trip.specs.Words.{each_is, all_bytes, no_return, no_feed}
-
--- Three tests hold together however they are bracketed.
-and_assoc : (a b c : Bool) → (a && (b && c)) ≡ ((a && b) && c)
-and_assoc true b c = refl
-and_assoc false b c = refl
+use Rattle.digits.specs.Digits.{is_small}
+use Rattle.cells.specs.Bytes.{each_is, all_bytes}
+use Rattle.cells.proofs.CellLaws.{each_append}
+use Rattle.round_trip.specs.Words.{no_return, no_feed, no_small}
 
 module _ (t : ℕ → Bool) where
-  -- A test holds of two lists joined if it holds of both.
-  pub all_append : (xs ys : List ℕ) → each_is t (xs ++ ys) ≡ (each_is t xs && each_is t ys)
-  all_append [] ys = refl
-  all_append (x ∷ xs) ys = rw (all_append xs ys, and_assoc)
-
-  -- Where it holds of two lists joined, it holds of each.
+  -- Where a test holds of two lists joined, it holds of each.
   pub all_split : (xs ys : List ℕ) → each_is t (xs ++ ys) ≡ true → (each_is t xs ≡ true) × (each_is t ys ≡ true)
-  all_split xs ys e = and_split (each_is t xs) (each_is t ys) (sym (all_append xs ys) ∙ e)
+  all_split xs ys e = and_split (each_is t xs) (each_is t ys) (sym (each_append t xs ys) ∙ e)
 
   -- Where it holds of a list, it holds of the first numbers and of those after them.
   pub all-parts : (n : ℕ) (xs : List ℕ) → each_is t xs ≡ true → (each_is t (take n xs) ≡ true) × (each_is t (drop n xs) ≡ true)
@@ -54,17 +47,17 @@ bytes-parts n bs e = all-parts (λ b. ltb b byte_values) n bs e
 
 -- Bytes joined are bytes.
 pub bytes-append : (xs ys : List ℕ) → all_bytes (xs ++ ys) ≡ (all_bytes xs && all_bytes ys)
-bytes-append xs ys = all_append (λ b. ltb b byte_values) xs ys
+bytes-append xs ys = each_append (λ b. ltb b byte_values) xs ys
 
--- No carriage return stands in two texts joined if none stands in either.
-pub returns-append : (xs ys : List ℕ) → no_return (xs ++ ys) ≡ (no_return xs && no_return ys)
-returns-append xs ys = all_append (λ c. not (eqb c carriage_return)) xs ys
-
--- Where none stands in two texts joined, none stands in either.
+-- Where no carriage return stands in two texts joined, none stands in either.
 pub returns-split : (xs ys : List ℕ) → no_return (xs ++ ys) ≡ true → (no_return xs ≡ true) × (no_return ys ≡ true)
 returns-split xs ys e = all_split (λ c. not (eqb c carriage_return)) xs ys e
 
--- None stands at any place of a text without.
+-- Where no digit in lower case stands in two texts joined, none stands in either.
+pub smalls-split : (xs ys : List ℕ) → no_small (xs ++ ys) ≡ true → (no_small xs ≡ true) × (no_small ys ≡ true)
+smalls-split xs ys e = all_split (λ c. not (is_small c)) xs ys e
+
+-- No carriage return stands at any place of a text without.
 pub return-at : (l : List ℕ) (i : ℕ) → no_return l ≡ true → get_or l i 0 ≡ carriage_return → ⊥
 return-at l i e =
     eqb-false (get_or l i 0) carriage_return

@@ -28,7 +28,7 @@ left_or false after before = before
 -- Reading an image: the array that the text gives; refused, as it was (Refusal numbers, 1, 5, 11 to 18; Image files).
 pub record ReadsThrough (part : ℕ) (text array numbers : List ℕ) (r : ℕ) (array' numbers' : List ℕ) : Type 0 where
   pub answer : r ≡ answer_by (fits numbers)
-  pub reply : numbers' ≡ left_or (fits numbers) (told (verdict_of (image_of intel part text array) (length text))) numbers
+  pub reply : numbers' ≡ left_or (fits numbers) (told (verdict_of (image_of intel part text array))) numbers
   pub kept : array' ≡ left_or (fits numbers) (array_after (image_of intel part text array) array) array
 
 -- Writing an image: the buffer with the fixed form at its start; refused, as it was (Refusal numbers, 1, 5, 19; Image files).

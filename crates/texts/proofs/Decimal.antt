@@ -1,16 +1,16 @@
 -- Laws of numbers in decimal: the fewest digits of a number are the digits that the refusal's line has. Assumes nothing.
 use Prim.Native.Nat.{ℕ, zero, suc, ◌+◌, ◌*◌, ◌-◌, ◌/◌, ◌%◌, ◌^◌, ◌≤◌, ◌<◌}
-use mathlib.Core.List.{List, ◌++◌, append_assoc}
+use mathlib.Core.List.{List, [], ◌∷◌, ◌++◌, append_assoc}
 use mathlib.Core.Path.{◌≡◌, ap, sym, ◌∙◌}
 use native.Mathlib.Omega.{arith}
 use native.Mathlib.Nat.{pow-suc, pow-le-pow_right, lt_of_not-le}
-use lib.ListN.{length, take, drop}
+use lib.ListN.{length, take, drop, set, length-append}
 use lib.Seq.{sets-eq, take_all, drop-drop, length-take-le}
 use borrow.Author.Tests.{lt-ltb, le-ltb}
 use Rattle.io.specs.Digits.{hex_digit_ascii, last_digits, IsDigitCount}
-use Rattle.ground.proofs.Rows.{part-back}
+use Rattle.ground.proofs.Rows.{sets-append, part-back}
 use Rattle.digits.specs.Digits.{glyph_of}
-use Rattle.texts.specs.Numbers.{decimal_in, decimal_of}
+use Rattle.texts.specs.Numbers.{decimal_in, decimal_of, number_line}
 use Rattle.texts.specs.Laying.{Lays}
 
 -- A decimal digit as the kit writes it.
@@ -81,4 +81,12 @@ decimal-lays n k at ds out part h f d e r p =
     record {
       laid = b ∙ rw (drop-drop k at out, ← m, sets-eq (decimal_of n) out at (omega arith), append_assoc);
       next = rw m;
+    }
+
+-- A number laid from a place on, and a line feed behind it, are the number's line.
+pub line-lays : (n at s : ℕ) (out ds : List ℕ) → Lays (decimal_of n) out at s ds → Lays (number_line n) out at (s + 1) (set ds s 10)
+line-lays n at s out ds a =
+    record {
+      laid = ap (λ (l : List ℕ). set l s 10) a.laid ∙ sets-append (decimal_of n) (10 ∷ []) out at s a.next;
+      next = rw (length-append (decimal_of n) (10 ∷ [])) (omega (arith, a.next));
     }

@@ -7,7 +7,7 @@ use native.Mathlib.Nat.{zero-add}
 use lib.ListN.{length, take, drop, set, length-append}
 use lib.Seq.{sets, sets-eq, length-sets, length-take-le, take_at}
 use Rattle.ground.proofs.Rows.{sets-append}
-use Rattle.texts.specs.Numbers.{decimal_of}
+use Rattle.texts.specs.Numbers.{decimal_of, number_line}
 use Rattle.texts.specs.Refusal.{refusal_line}
 use Rattle.texts.specs.Laying.{Starts, Lays}
 
@@ -26,23 +26,28 @@ starts-laid text out out' r e f h =
 pub starts-text : (text out : List ℕ) (r : ℕ) (out' : List ℕ) → Starts text out r out' → take r out' ≡ text
 starts-text text out r out' x = rw x.shown (take_at text (drop r out) r (sym x.count))
 
--- Number, blank, place and line feed, laid one after the other.
+-- A text at the start of a buffer, and another laid behind it, are both at its start.
+pub starts_more : (text more out out' out'' : List ℕ) (n r : ℕ) → Starts text out n out' → Lays more out' n r out'' → r ≤ length out
+    → Starts (text ++ more) out r out''
+starts_more text more out out' out'' n r a b h =
+    let c : n ≡ 0 + length text = omega (arith, a.count) in
+    let k : 0 + length text ≤ length out = omega (arith, b.next) in
+    let e : out' ≡ sets out 0 text = a.shown ∙ rw c (sym (sets-eq text out 0 k)) in
+    starts-laid (text ++ more) out out'' r
+    (b.laid ∙ ap (λ (l : List ℕ). sets l n more) e ∙ sets-append text more out 0 n c)
+    (rw (length-append text more) (omega (arith, b.next)))
+    h
+
+-- Number, blank and the line of the place, laid one after the other.
 pub refusal-starts : (k p s f : ℕ) (out ks ps : List ℕ) → Lays (decimal_of k) out 0 s ks → s ≤ 20
-    → Lays (decimal_of p) (set ks s 0x20) (s + 1) f ps → f ≤ s + 1 + 20 → 42 ≤ length out
-    → Starts (refusal_line k p) out (f + 1) (set ps f 10)
+    → Lays (number_line p) (set ks s 0x20) (s + 1) f ps → f ≤ s + 1 + 21 → 42 ≤ length out
+    → Starts (refusal_line k p) out f ps
 unfolding refusal_line
 refusal-starts k p s f out ks ps a h b g m =
-    let d : List ℕ = decimal_of k in
-    let e : List ℕ = decimal_of p in
-    let n : length (d ++ (0x20 ∷ [])) ≡ s + 1 = rw length-append (omega (arith, a.next)) in
-    let one : set ks s 0x20 ≡ sets out 0 (d ++ (0x20 ∷ [])) =
-    ap (λ (l : List ℕ). set l s 0x20) a.laid ∙ sets-append d (0x20 ∷ []) out 0 s a.next in
-    let two : ps ≡ sets out 0 ((d ++ (0x20 ∷ [])) ++ e) =
-    b.laid ∙ ap (λ (l : List ℕ). sets l (s + 1) e) one ∙ sets-append (d ++ (0x20 ∷ [])) e out 0 (s + 1) (omega arith) in
-    let l : length ((d ++ (0x20 ∷ [])) ++ e) ≡ f = rw (length-append (d ++ (0x20 ∷ [])) e) (omega (arith, b.next)) in
-    let three : set ps f 10 ≡ sets out 0 (((d ++ (0x20 ∷ [])) ++ e) ++ (10 ∷ [])) =
-    ap (λ (x : List ℕ). set x f 10) two ∙ sets-append ((d ++ (0x20 ∷ [])) ++ e) (10 ∷ []) out 0 f (omega arith) in
-    let whole : ((d ++ (0x20 ∷ [])) ++ e) ++ (10 ∷ []) ≡ d ++ (0x20 ∷ e ++ (10 ∷ [])) = simp append_assoc in
-    let last : length (((d ++ (0x20 ∷ [])) ++ e) ++ (10 ∷ [])) ≡ f + 1 =
-    rw (length-append ((d ++ (0x20 ∷ [])) ++ e) (10 ∷ [])) (omega arith) in
-    starts-laid _ out _ (f + 1) (three ∙ ap (λ (x : List ℕ). sets out 0 x) whole) (sym last ∙ ap length whole) (omega arith)
+    let d : List ℕ = decimal_of k ++ (0x20 ∷ []) in
+    let one : set ks s 0x20 ≡ sets out 0 d =
+    ap (λ (l : List ℕ). set l s 0x20) a.laid ∙ sets-append (decimal_of k) (0x20 ∷ []) out 0 s a.next in
+    let n : s + 1 ≡ length d = rw (length-append (decimal_of k) (0x20 ∷ [])) (omega (arith, a.next)) in
+    let whole : d ++ number_line p ≡ decimal_of k ++ (0x20 ∷ number_line p) = append_assoc (decimal_of k) (0x20 ∷ []) (number_line p) in
+    let first : Starts d out (s + 1) (set ks s 0x20) = starts-laid d out (set ks s 0x20) (s + 1) one n (omega arith) in
+    rw whole at (starts_more d (number_line p) out (set ks s 0x20) ps (s + 1) f first b (omega arith))

@@ -1,10 +1,13 @@
 // Numbers as text.
 ghost use Rattle.std.specs.Prelude.{◌≡◌, ◌+◌, ◌≤◌, length};
-ghost use Rattle.texts.specs.Numbers.{decimal_of, byte_text, address_text};
+ghost use Rattle.texts.specs.Numbers.{decimal_of, number_line, byte_text, address_text};
 ghost use Rattle.texts.specs.Laying.{Lays};
 
 // The most digits of a number.
 pub const DIGITS: usize = 20;
+
+// The longest line of a number: its digits and a line feed.
+pub const LINE: usize = DIGITS + 1;
 
 // Writes a number in decimal over `out` from `at` on, and answers where it ends.
 pub fn put_decimal(value: u64, out: &mut [u8], at: usize) -> usize
@@ -16,6 +19,17 @@ pub fn put_decimal(value: u64, out: &mut [u8], at: usize) -> usize
     let n = io::decimal(value, &mut digits);
     bytes::copy(&digits[..n], &mut out[at..]);
     at + n
+}
+
+// Writes a number in decimal and a line feed over `out` from `at` on, and answers where the line ends.
+pub fn put_line(value: u64, out: &mut [u8], at: usize) -> usize
+    requires { at + 21 ≤ length out.old }
+    ensures lays { Lays (number_line value) out.old at result out.new }
+    ensures upper_bound { result ≤ at + 21 }
+{
+    let end = put_decimal(value, out, at);
+    out[end] = lines::LINE_FEED;
+    end + 1
 }
 
 // The two digits of a byte.

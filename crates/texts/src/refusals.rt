@@ -17,7 +17,5 @@ pub fn put_refusal(number: u8, place: usize, out: &mut [u8]) -> usize
 {
     let first = numbers::put_decimal(number as u64, out, 0);
     out[first] = SPACE;
-    let last = numbers::put_decimal(place as u64, out, first + 1);
-    out[last] = lines::LINE_FEED;
-    last + 1
+    numbers::put_line(place as u64, out, first + 1)
 }

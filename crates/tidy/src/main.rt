@@ -1,4 +1,5 @@
-// `tidy [PART]` reads the image of a part on standard input and writes its fixed form to standard output, or one line with its refusal.
+// `tidy [PART]` reads the image of a part on standard input and writes its fixed form to standard output and after it, on a line, how many
+// different addresses its data records gave; or one line with its refusal.
 use libc::{STDIN_FILENO, STDOUT_FILENO};
 
 // A word that is longer than its room is read as an empty one, and so is no number.

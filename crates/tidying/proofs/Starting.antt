@@ -1,4 +1,4 @@
--- Laws of what is shown of a text: an image's fixed form, or a refusal's line. Assumes nothing.
+-- Laws of what is shown of a text: an image's fixed form and the number of addresses given, or a refusal's line. Assumes nothing.
 use Prim.Native.Nat.{ℕ, ◌/◌, ◌≤◌}
 use mathlib.Core.Bool.{Bool, true, false, true≢false}
 use mathlib.Core.List.{List, ◌++◌}
@@ -15,19 +15,31 @@ use Rattle.ground.specs.declared.Reply.TheVariants.{Accepted, Refused}
 use Rattle.ground.proofs.Verdicts.{is-accepted, is-refused, apart}
 use Rattle.forms.specs.Reading.{Reading, taken, bad, reading_of}
 use Rattle.forms.specs.Writing.{image_text, length_of, most_length}
-use Rattle.forms.proofs.Lengths.{lines-most, length-image}
+use Rattle.forms.proofs.Lengths.{lines-most, length-image, length_most}
 use Rattle.intel.specs.Intel.{intel}
 use Rattle.formats.proofs.Named.{intel-measured}
-use Rattle.reader.specs.Answers.{verdict_of, array_after}
+use Rattle.reader.proofs.Readings.{bad-of, taken_of}
 use Rattle.image.specs.Promises.{sized, image_by, image_of, write_verdict, ReadsImage, WritesImage}
 use Rattle.image.proofs.Sizes.{kind-most}
 use Rattle.texts.specs.Refusal.{refusal_line}
 use Rattle.texts.specs.Laying.{Starts}
-use Rattle.tidying.specs.Shown.{text_gives, shown_of}
+use Rattle.tidying.specs.Shown.{shown_by, text_gives, shown_of}
 
--- An array of the part's size passes the test.
-right-size : (part : ℕ) (array : List ℕ) → length array ≡ (kind_of part).size → sized part (length array) ≡ true
-right-size part array h = eq-eqb (length array) (kind_of part).size h
+-- An array of the part's size passes the test, and no fixed form of it is longer than the largest array's may be.
+module _ (part : ℕ) (array : List ℕ) (h : length array ≡ (kind_of part).size) where
+  right-size : sized part (length array) ≡ true
+  right-size = eq-eqb (length array) (kind_of part).size h
+
+  room_most : most_length intel (length array) ≤ most_length intel large_size
+  room_most =
+      let k = kind-most part in
+      let l : length array / 16 ≤ large_size / 16 = omega arith in
+      lines-most intel (length array / 16) (large_size / 16) l
+
+  pub image-most : (out out' : List ℕ) (n : ℕ) → Starts (image_text intel array) out n out' → n ≤ most_length intel large_size
+  image-most out out' n s =
+      let l : length (image_text intel array) ≡ length_of intel array = length-image intel intel-measured array in
+      omega (arith, s.count, length_most intel array, room_most)
 
 -- Writing is not refused where the part is known and array and buffer have their sizes.
 module _ (part : ℕ) (array out : List ℕ) (b : known part ≡ true) (h : length array ≡ (kind_of part).size)
@@ -35,11 +47,8 @@ module _ (part : ℕ) (array out : List ℕ) (b : known part ≡ true) (h : leng
   written : write_verdict intel part array out ≡ accepted (length_of intel array)
   unfolding write_verdict
   written =
-      let k = kind-most part in
-      let l : (kind_of part).size / 16 ≤ large_size / 16 = omega arith in
-      let n : most_length intel (kind_of part).size ≤ length out =
-      omega (arith, lines-most intel ((kind_of part).size / 16) (large_size / 16) l) in
-      rw (b, right-size part array h, le-leb (most_length intel (kind_of part).size) (length out) n)
+      let k : most_length intel (kind_of part).size ≤ most_length intel large_size = rw h at (room_most part array h) in
+      rw (b, right-size part array h, le-leb (most_length intel (kind_of part).size) (length out) (omega arith))
 
   pub image-refused : (out' : List ℕ) (r : Reply) (k p : ℕ) → WritesImage intel part array out r out' → r ≡ Refused k p → ⊥
   image-refused out' r k p w e =
@@ -56,19 +65,10 @@ module _ (part : ℕ) (array out : List ℕ) (b : known part ≡ true) (h : leng
       let f : n ≤ length out' = omega (arith, ap length s, length-append (image_text intel array) (drop n out)) in
       record { shown = s; count = sym l; fits = (f, sym (length-take-le n out' f)) }
 
--- What a reading was, by its verdict.
-bad-of : (v : Reading) (n k p : ℕ) → verdict_of v n ≡ refused k p → v ≡ bad k p
-bad-of (taken array) n k p e = let z : ◌≡◌ {A = ℕ} 0 1 = cc in absurd (omega arith)
-bad-of (bad l q) n k p e = let a : l ≡ k = cc in let b : q ≡ p = cc in rw (a, b)
-
-taken_of : (v : Reading) (old array : List ℕ) (n m : ℕ) → verdict_of v n ≡ accepted m → array ≡ array_after v old → v ≡ taken array
-taken_of (taken given) old array n m e f = ap taken (sym f)
-taken_of (bad k p) old array n m e f = let z : ◌≡◌ {A = ℕ} 0 1 = cc in absurd (omega arith)
-
 -- A reading that is accepted is that of a known part.
-known_by : (b c : Bool) (v : Reading) (array : List ℕ) → image_by b c v ≡ taken array → b ≡ true
-known_by true c v array e = refl
-known_by false c v array e = absurd (true≢false (cc))
+known_by : (b c : Bool) (v : Reading) (array : List ℕ) (m : ℕ) → image_by b c v ≡ taken array m → b ≡ true
+known_by true c v array m e = refl
+known_by false c v array m e = absurd (true≢false (cc))
 
 module _ (part : ℕ) (text array array' : List ℕ) (r : Reply) (h : length array ≡ (kind_of part).size)
     (w : ReadsImage intel part text array r array') where
@@ -77,24 +77,24 @@ module _ (part : ℕ) (text array array' : List ℕ) (r : Reply) (h : length arr
   unfolding image_of
   text-decides = rw (right-size part array h)
 
-  read_taken : (m : ℕ) → r ≡ Accepted m → image_of intel part text array ≡ taken array'
-  read_taken m e = taken_of (image_of intel part text array) array array' (length text) m (is-accepted r _ m w.reply e) w.kept
+  -- What the text gives, by the reply.
+  pub text-bad : (k p : ℕ) → r ≡ Refused k p → text_gives part text ≡ bad k p
+  text-bad k p e = sym text-decides ∙ bad-of (image_of intel part text array) k p (is-refused r _ k p w.reply e)
+
+  pub text-taken : (m : ℕ) → r ≡ Accepted m → text_gives part text ≡ taken array' m
+  text-taken m e = sym text-decides ∙ taken_of (image_of intel part text array) array array' m (is-accepted r _ m w.reply e) w.kept
 
   -- What was read and accepted is of a known part.
   pub read_known : (m : ℕ) → r ≡ Accepted m → known part ≡ true
-  read_known m e =
-      known_by (known part) true (reading_of intel (kind_of part).size text) array' (sym text-decides ∙ read_taken m e)
+  read_known m e = known_by (known part) true (reading_of intel (kind_of part).size text) array' m (text-taken m e)
 
-  -- What is shown of a text that is read, by the reply.
+  -- What is shown of a text that is read.
   pub shows-refusal : (out out' : List ℕ) (k p n : ℕ) → r ≡ Refused k p → Starts (refusal_line k p) out n out'
       → Starts (shown_of part text) out n out'
   unfolding shown_of
-  shows-refusal out out' k p n e s =
-      let b : image_of intel part text array ≡ bad k p =
-      bad-of (image_of intel part text array) (length text) k p (is-refused r _ k p w.reply e) in
-      rw (sym text-decides ∙ b) s
+  shows-refusal out out' k p n e s = rw (text-bad k p e) s
 
-  pub shows-image : (out out' : List ℕ) (m n : ℕ) → r ≡ Accepted m → Starts (image_text intel array') out n out'
+  pub shows-image : (out out' : List ℕ) (m n : ℕ) → r ≡ Accepted m → Starts (shown_by (taken array' m)) out n out'
       → Starts (shown_of part text) out n out'
   unfolding shown_of
-  shows-image out out' m n e s = rw (sym text-decides ∙ read_taken m e) s
+  shows-image out out' m n e s = rw (text-taken m e) s

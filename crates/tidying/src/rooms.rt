@@ -9,10 +9,12 @@ pub fn text_room() -> [u8; 65537]
     [0; 65537]
 }
 
-// The longest fixed form of the largest array.
-pub fn out_room() -> [u8; image::LONGEST]
-    ensures value { 45068 ≡ length result }
-    ensures value_2 { result ≡ replicate 45068 0 }
+// The longest fixed form of the largest array, and the line of a number.
+pub const OUT: usize = image::LONGEST + texts::numbers::LINE;
+
+pub fn out_room() -> [u8; OUT]
+    ensures value { 45089 ≡ length result }
+    ensures value_2 { result ≡ replicate 45089 0 }
 {
-    [0; image::LONGEST]
+    [0; OUT]
 }

@@ -5,15 +5,14 @@ use mathlib.Core.List.{List, [], ◌∷◌}
 use mathlib.Core.Path.{◌≡◌, refl, sym, ◌∙◌}
 use native.Mathlib.Nat.{min-le_right}
 use native.Mathlib.Omega.{arith}
-use lib.Dec.{leb}
 use lib.ListN.{length, get_or, drop}
-use borrow.Author.Tests.{leb-true}
 use Rattle.ground.specs.Cases.{odd}
-use Rattle.ground.proofs.Tests.{and_split, not-zero}
-use Rattle.digits.specs.Digits.{within}
+use Rattle.ground.proofs.Tests.{not-zero}
+use Rattle.digits.specs.Digits.{within, digit_by, is_small, digit_of}
+use Rattle.digits.proofs.DigitLaws.{within-true}
 use Rattle.tokens.specs.Tokens.{same_word}
-use Rattle.words.specs.Words.{decimal_base, figure_by, figure_of, all_figures, numeral, figures_value}
-use Rattle.words.proofs.WordLaws.{within_low, digit-figure, digit-fails, digit-holds}
+use Rattle.words.specs.Words.{decimal_base, all_figures, numeral, figures_value}
+use Rattle.words.proofs.WordLaws.{digit-figure, digit-fails, digit-holds}
 use Rattle.wires.specs.Wires.{Var, scl_name, sda_name, wp_name, vcc_name, weight_of, bit_by, laid, marked, marks_by, marks_of, has_wire}
 use Rattle.wires.specs.Times.{no_time, time_by, time_of}
 
@@ -80,28 +79,27 @@ wire-wanted mask wire h = rw (not-zero wire h)
 -- A decimal digit lies within two characters; its lower four bits are its value, which is below ten.
 module _ (c : ℕ) where
   module _ (e : within 0x30 0x39 c ≡ true) where
-    pub figure-low : c % 16 ≡ figure_of c
+    pub figure-low : c % 16 ≡ digit_of c
     figure-low =
-        let h = within_low 0x30 0x39 c e in
-        let k = leb-true c 0x39 (and_split (leb 0x30 c) (leb c 0x39) e).1 in
+        let t = within-true 0x30 0x39 c e in
         let f = digit-figure c e in
         omega arith
 
-    pub figure-decimal : figure_of c < decimal_base
+    pub figure-decimal : digit_of c < decimal_base
     figure-decimal =
-        let k = leb-true c 0x39 (and_split (leb 0x30 c) (leb c 0x39) e).1 in
+        let t = within-true 0x30 0x39 c e in
         let f = digit-figure c e in
         omega arith
 
   -- Any other character's value is not.
-  other-by : (upper lower : Bool) → decimal_base ≤ figure_by false upper lower c
-  other-by true lower = omega arith
-  other-by false true = omega arith
-  other-by false false = omega arith
+  other-by : (capital small : Bool) → within 0x41 0x46 c ≡ capital → is_small c ≡ small → decimal_base ≤ digit_by false capital small c
+  other-by true small e f = let t = within-true 0x41 0x46 c e in omega arith
+  other-by false true e f = let t = within-true 0x61 0x66 c f in omega arith
+  other-by false false e f = omega arith
 
-  pub figure-other : within 0x30 0x39 c ≡ false → decimal_base ≤ figure_of c
-  unfolding figure_of
-  figure-other e = rw e (other-by (within 0x41 0x46 c) (within 0x61 0x66 c))
+  pub figure-other : within 0x30 0x39 c ≡ false → decimal_base ≤ digit_of c
+  unfolding digit_of
+  figure-other e = rw e (other-by (within 0x41 0x46 c) (is_small c) refl refl)
 
 -- A time by whether its characters are a number.
 module _ (ds : List ℕ) where
@@ -132,5 +130,5 @@ module _ (ds : List ℕ) (i : ℕ) {b : Bool} (h : i < length ds) (e : b ≡ wit
     time-goes k = digit-holds decimal_base ds i h refl (figure-decimal (get_or ds i 0) (sym e ∙ k)) ∙ left
 
   pub time-digit : (n : ℕ) {r : ℕ} → b ≡ true → r ≡ min (n * decimal_base + get_or ds i 0 % 16) no_time
-      → r ≡ min (n * decimal_base + figure_of (get_or ds i 0)) no_time
+      → r ≡ min (n * decimal_base + digit_of (get_or ds i 0)) no_time
   time-digit n k f = rw (← figure-low (get_or ds i 0) (sym e ∙ k)) f

@@ -9,35 +9,14 @@ use lib.Dec.{leb}
 use lib.ListN.{length, get_or, take, drop, length-drop, drop_of_length-le}
 use lib.Seq.{drop-cons, drop-length, take_all}
 use borrow.Author.Tests.{leb-true, leb-false, lt-ltb, le-ltb, eq-eqb, ne_eqb}
-use Rattle.ground.proofs.Tests.{and_split}
-use Rattle.digits.specs.Digits.{base, within}
-use Rattle.words.specs.Words.{decimal_base, figure_of, all_figures, numeral, figures_value, after_mark, is_number, counts_by, counts_as}
+use Rattle.digits.specs.Digits.{base, within, digit_of}
+use Rattle.words.specs.Words.{decimal_base, all_figures, numeral, figures_value, after_mark, is_number, counts_by, counts_as}
 use Rattle.words.specs.Marks.{MarkEnds}
 
--- A character within two others is not below the first.
-pub within_low : (low high c : ℕ) → within low high c ≡ true → low ≤ c
-within_low low high c e = leb-true low c (and_split (leb low c) (leb c high) e).0
-
-within-high : (low high c : ℕ) → within low high c ≡ true → c ≤ high
-within-high low high c e = leb-true c high (and_split (leb low c) (leb c high) e).1
-
--- A character by where it lies.
-module _ (c : ℕ) where
-  pub digit-figure : within 0x30 0x39 c ≡ true → c - 0x30 ≡ figure_of c
-  unfolding figure_of
-  digit-figure e = rw e
-
-  pub digit-upper : within 0x30 0x39 c ≡ false → within 0x41 0x46 c ≡ true → c - 0x41 + 10 ≡ figure_of c
-  unfolding figure_of
-  digit-upper e f = rw (e, f)
-
-  pub digit-lower : within 0x30 0x39 c ≡ false → within 0x41 0x46 c ≡ false → within 0x61 0x66 c ≡ true → c - 0x61 + 10 ≡ figure_of c
-  unfolding figure_of
-  digit-lower e f g = rw (e, f, g)
-
-  pub digit-none : within 0x30 0x39 c ≡ false → within 0x41 0x46 c ≡ false → within 0x61 0x66 c ≡ false → 16 ≡ figure_of c
-  unfolding figure_of
-  digit-none e f g = rw (e, f, g)
+-- A character within the figures is one.
+pub digit-figure : (c : ℕ) → within 0x30 0x39 c ≡ true → c - 0x30 ≡ digit_of c
+unfolding digit_of
+digit-figure c e = rw e
 
 -- A number that is cut to the largest value before it is counted on is that of the whole cut at the end.
 pub cut-once : (n power rest most : ℕ) → min (min n most * power + rest) most ≡ min (n * power + rest) most
@@ -63,11 +42,11 @@ abbrev pub comes_to : ℕ → ℕ → List ℕ → ℕ
 comes_to radix n left = n * radix ^ length left + figures_value radix left
 
 -- One turn: a digit joins those so far, and the number is cut.
-pub value-turn : (radix most n i : ℕ) (ds : List ℕ) {r : ℕ} → i < length ds → r ≡ min (n * radix + figure_of (get_or ds i 0)) most
+pub value-turn : (radix most n i : ℕ) (ds : List ℕ) {r : ℕ} → i < length ds → r ≡ min (n * radix + digit_of (get_or ds i 0)) most
     → min (comes_to radix r (drop (suc i) ds)) most ≡ min (comes_to radix n (drop i ds)) most
 value-turn radix most n i ds h e =
     let left = drop (suc i) ds in
-    let d = figure_of (get_or ds i 0) in
+    let d = digit_of (get_or ds i 0) in
     rw (e, drop-cons ds i 0 h, pow-suc radix (length left))
     (cut-once (n * radix + d) (radix ^ length left) (figures_value radix left) most
     ∙ ap (λ (x : ℕ). min x most) (counted-on n radix d (radix ^ length left) (figures_value radix left)))
@@ -98,7 +77,7 @@ module _ (radix : ℕ) (cs : List ℕ) (i : ℕ) where
   pub digits-end : length cs ≤ i → true ≡ all_figures radix (drop i cs)
   digits-end h = rw (drop_of_length-le cs h)
 
-  module _ {d : ℕ} (h : i < length cs) (e : d ≡ figure_of (get_or cs i 0)) where
+  module _ {d : ℕ} (h : i < length cs) (e : d ≡ digit_of (get_or cs i 0)) where
     pub digit-fails : radix ≤ d → false ≡ all_figures radix (drop i cs)
     digit-fails k = rw (drop-cons cs i 0 h, ← e, le-ltb d radix k)
 

@@ -1,28 +1,17 @@
 -- The words of a command line as numbers (request 2026-01, programs take it as an argument). How they are read is the row "2026-01,
 -- arguments" of docs/DECISIONS.md.
-use Rattle.std.specs.Prelude.{ℕ, ◌+◌, ◌*◌, ◌-◌, ◌^◌, min, Bool, true, false, ◌&&◌, ◌||◌, List, [], ◌∷◌, ltb, eqb, length}
+use Rattle.std.specs.Prelude.{ℕ, ◌+◌, ◌*◌, ◌^◌, min, Bool, true, false, ◌&&◌, ◌||◌, List, [], ◌∷◌, ltb, eqb, length}
 use Rattle.ground.specs.Numbers.{x4323}
-use Rattle.digits.specs.Digits.{base, within}
+use Rattle.digits.specs.Digits.{base, digit_of}
 
 -- How many values a digit of a decimal number has; those of a hexadecimal one are `base` of `digits` (2026-01, arguments: decimal).
 abbrev pub decimal_base : ℕ
 decimal_base = 10
 
--- 0 to 9 count nought to nine, A to F and a to f ten to fifteen; any other character is no digit (2026-01, arguments: either case).
-abbrev pub figure_by : Bool → Bool → Bool → ℕ → ℕ
-figure_by true upper lower c = c - 0x30
-figure_by false true lower c = c - 0x41 + decimal_base
-figure_by false false true c = c - 0x61 + decimal_base
-figure_by false false false c = base
-
--- The value of a character as a digit (2026-01, arguments: digits in either case).
-unfoldable pub figure_of : ℕ → ℕ
-figure_of c = figure_by (within 0x30 0x39 c) (within 0x41 0x46 c) (within 0x61 0x66 c) c
-
--- Whether each of the characters is a digit in a base (2026-01, arguments: no sign: no other character is taken).
+-- Whether each of the characters is a digit in a base (2026-01, arguments: digits in either case; no sign: no other character is taken).
 abbrev pub all_figures : ℕ → List ℕ → Bool
 all_figures radix [] = true
-all_figures radix (c ∷ cs) = ltb (figure_of c) radix && all_figures radix cs
+all_figures radix (c ∷ cs) = ltb (digit_of c) radix && all_figures radix cs
 
 -- Whether characters are a number in a base: at least one, and digits all (2026-01, arguments: numbers by position).
 unfoldable pub numeral : ℕ → List ℕ → Bool
@@ -32,7 +21,7 @@ numeral radix (c ∷ cs) = all_figures radix (c ∷ cs)
 -- Its value: each digit counts as often as the base's power by how many digits follow it (2026-01, arguments: numbers by position).
 abbrev pub figures_value : ℕ → List ℕ → ℕ
 figures_value radix [] = 0
-figures_value radix (c ∷ cs) = figure_of c * radix ^ length cs + figures_value radix cs
+figures_value radix (c ∷ cs) = digit_of c * radix ^ length cs + figures_value radix cs
 
 -- What follows the mark of a hexadecimal word, if it has the mark (2026-01, arguments: hexadecimal after `0x`).
 abbrev pub after_mark_by : Bool → List ℕ → List ℕ

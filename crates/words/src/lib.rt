@@ -1,6 +1,7 @@
 // Number words of a command line: decimal, or hexadecimal after `0x`.
 ghost use Rattle.std.specs.Prelude.{◌≡◌, ◌+◌, ◌*◌, min};
-ghost use Rattle.words.specs.Words.{part_named, byte_named, figure_of, numeral, figures_value, is_number, counts_as};
+ghost use Rattle.digits.specs.Digits.{digit_of};
+ghost use Rattle.words.specs.Words.{part_named, byte_named, numeral, figures_value, is_number, counts_as};
 ghost use Rattle.words.specs.Marks.{MarkEnds};
 
 use ground::kinds;
@@ -14,18 +15,12 @@ const WIDEST_BYTE: u32 = 255;
 // The part where no word names one.
 pub const LEFT_OUT: u16 = kinds::X4323;
 
-// The value of a character as a digit.
+// The value of a character as a digit; what is no digit counts as the larger base, and so is none in either.
 fn digit(character: u8) -> u8
-    ensures { result ≡ figure_of character }
+    ensures { result ≡ digit_of character }
 {
-    if digits::within(0x30, 0x39, character) {
-        return character - 0x30;
-    }
-    if digits::within(0x41, 0x46, character) {
-        return character - 0x41 + TEN;
-    }
-    if digits::within(0x61, 0x66, character) {
-        return character - 0x61 + TEN;
+    if digits::is_digit(character) {
+        return digits::value(character);
     }
     digits::BASE
 }
@@ -58,7 +53,7 @@ fn lesser(value: u64, most: u32) -> u32
 
 // A number with one digit more, as far as it is not too wide.
 fn with_digit(value: u32, base: u8, character: u8, most: u32) -> u32
-    ensures { result ≡ min (value * base + figure_of character) most }
+    ensures { result ≡ min (value * base + digit_of character) most }
 {
     lesser(value as u64 * base as u64 + digit(character) as u64, most)
 }

@@ -32,8 +32,8 @@ ORDER = [
      ".iter().min_by_key(|fault| (fault.line, if fault.number == 21 { 0 } else { fault.number }))?"),
     ("order of faults", "21 after 22 and 23 at one line", LEAST, ".iter().min()?",
      ".iter().min_by_key(|fault| (fault.line, if fault.number == 21 { 99 } else { fault.number }))?"),
-    ("order of faults", "the dump before the image", REPORT, "    read_image(which.part, image, &mut array)?;\n",
-     "    read_dump(dump)?;\n    read_image(which.part, image, &mut array)?;\n"),
+    ("order of faults", "the dump before the image", REPORT, "    let given = read_image(which.part, image, &mut array)?;\n",
+     "    read_dump(dump)?;\n    let given = read_image(which.part, image, &mut array)?;\n"),
     ("order of faults", "the image before the select", REPORT, "    let mut chip = Chip::power_up(",
      "    if let Some(kind) = crate::parts::Kind::of(which.part) { read_image(which.part, image, &mut vec![0; kind.size])?; }\n"
      "    let mut chip = Chip::power_up("),
@@ -220,6 +220,11 @@ REPORTED = [
     ("report", "not at samples of 100,000", REPORT, "answer & OWN_LEVEL == 0 {",
      "answer & OWN_LEVEL == 0 && elapsed[place] != MAX_ELAPSED {"),
     ("report", "places count from 1", REPORT, "piece * MAX_SAMPLES + place)", "piece * MAX_SAMPLES + place + 1)"),
+    ("report", "how many addresses the image gave stands before it", REPORT, "Ok(report) => report.places.iter()",
+     "Ok(report) => std::iter::once(&report.given).chain(&report.places)"),
+    ("images", "lower-case digits are refused", REPORT, "    let given = read_image(which.part, image, &mut array)?;\n",
+     "    if image.iter().any(u8::is_ascii_lowercase) { return Err(Refusal { number: 12, place: 0 }); }\n"
+     "    let given = read_image(which.part, image, &mut array)?;\n"),
     ("pieces", "places begin anew", REPORT, "piece * MAX_SAMPLES + place)", "piece * 0 + place)"),
     ("pieces", "the part powers up anew", REPORT, "        let elapsed: Vec<u32> =",
      "        if piece > 0 { *chip = Chip::power_up(chip.part, chip.select, chip.stored)?; }\n        let elapsed: Vec<u32> ="),

@@ -81,20 +81,29 @@ impl Which {
     }
 }
 
+/// Where dump and twin disagree, and how many addresses the image gave, which the
+/// reader hands on though no program prints it here.
+#[derive(Debug, PartialEq, Eq)]
+pub struct Report {
+    pub given: usize,
+    pub places: Vec<usize>,
+}
+
 /// The report on a dump, or the refusal that comes first: the part's, then the
 /// image's, then the dump's.
-pub fn report(dump: &[u8], image: &[u8], which: Which) -> Result<Vec<usize>, Refusal> {
+pub fn report(dump: &[u8], image: &[u8], which: Which) -> Result<Report, Refusal> {
     let mut chip = Chip::power_up(which.part, which.select, which.stored)?;
     let mut array = vec![0; chip.kind().size];
-    read_image(which.part, image, &mut array)?;
+    let given = read_image(which.part, image, &mut array)?;
     let samples = samples(&read_dump(dump)?);
-    disagreements(&mut chip, &mut array, &samples)
+    let places = disagreements(&mut chip, &mut array, &samples)?;
+    Ok(Report { given, places })
 }
 
 /// The report as the programs write it.
 pub fn report_text(dump: &[u8], image: &[u8], which: Which) -> String {
     match report(dump, image, which) {
-        Ok(places) => places.iter().map(|place| format!("{place}\n")).collect(),
+        Ok(report) => report.places.iter().map(|place| format!("{place}\n")).collect(),
         Err(Refusal { number, place }) => format!("{number} {place}\n"),
     }
 }

@@ -62,10 +62,12 @@ impl Record {
     }
 }
 
+/// Either case, at each place for itself.
 fn digit(byte: u8) -> Option<u8> {
     match byte {
         b'0'..=b'9' => Some(byte - b'0'),
         b'A'..=b'F' => Some(byte - b'A' + 10),
+        b'a'..=b'f' => Some(byte - b'a' + 10),
         _ => None,
     }
 }
@@ -80,8 +82,9 @@ fn first_line(text: &[u8]) -> (&[u8], usize) {
     (line.strip_suffix(b"\r").unwrap_or(line), taken)
 }
 
-/// Sets the whole array from the text, or nothing of it.
-pub fn read_image(part: u16, text: &[u8], array: &mut [u8]) -> Result<(), Refusal> {
+/// Sets the whole array from the text, or nothing of it. Gives how many places
+/// the data records gave, those with FFh too.
+pub fn read_image(part: u16, text: &[u8], array: &mut [u8]) -> Result<usize, Refusal> {
     let kind = Kind::of(part).ok_or(Refusal { number: 1, place: 0 })?;
     if array.len() != kind.size {
         return refuse(5, 0);
@@ -100,10 +103,10 @@ pub fn read_image(part: u16, text: &[u8], array: &mut [u8]) -> Result<(), Refusa
             if start < text.len() {
                 return refuse(18, start);
             }
-            for (byte, value) in array.iter_mut().zip(given) {
+            for (byte, value) in array.iter_mut().zip(&given) {
                 *byte = value.unwrap_or(BLANK);
             }
-            return Ok(());
+            return Ok(given.iter().flatten().count());
         }
     }
     refuse(17, text.len())
@@ -174,17 +177,19 @@ pub fn record_text(address: u16, kind: u8, data: &[u8]) -> Vec<u8> {
     text.into_bytes()
 }
 
-/// The text in the writer's form, or the refusal as a line. For a part that is
-/// none there is nothing to lend, and nothing is looked at.
+/// The text in the writer's form and a line with how many places it gave, or the
+/// refusal as a line. For a part that is none there is nothing to lend, and
+/// nothing is looked at.
 pub fn tidy(part: u16, text: &[u8]) -> Vec<u8> {
     let (size, room) = Kind::of(part).map_or((0, 0), |kind| (kind.size, longest_out(kind)));
     let mut array = vec![0; size];
     let mut out = vec![0; room];
-    let outcome =
-        read_image(part, text, &mut array).and_then(|()| write_image(part, &array, &mut out));
+    let outcome = read_image(part, text, &mut array)
+        .and_then(|given| Ok((given, write_image(part, &array, &mut out)?)));
     match outcome {
-        Ok(length) => {
+        Ok((given, length)) => {
             out.truncate(length);
+            out.extend(format!("{given}\n").bytes());
             out
         }
         Err(Refusal { number, place }) => format!("{number} {place}\n").into_bytes(),

@@ -194,7 +194,7 @@ fn images_have_the_size_of_the_part_named() {
         assert!(said(part, &text(0x1000, &[0])).starts_with(":1010000000FF"));
         assert_eq!(said(part, &text(0x4000, &[0])), "15 0\n");
         assert_eq!(said(part, &text(0x3FFF, &[0, 0])), "15 0\n");
-        assert_eq!(said(part, &text(0xFFFF, &[])), END);
+        assert_eq!(said(part, &text(0xFFFF, &[])), format!("{END}0\n"));
     }
     for part in [4323, 4325] {
         assert!(said(part, &text(0x0FFF, &[0])).starts_with(":100FF000FF"));
@@ -206,7 +206,7 @@ fn images_have_the_size_of_the_part_named() {
     let mut out = vec![0; 45_068];
     assert_eq!(write_image(4285, &full, &mut out), Ok(45_068));
     let mut back = vec![1; 16_384];
-    assert_eq!(read_image(4283, &out, &mut back), Ok(()));
+    assert_eq!(read_image(4283, &out, &mut back), Ok(16_384));
     assert_eq!(back, full);
     assert_eq!(write_image(4283, &full, &mut out[1..]).unwrap_err().number, 19);
 }

@@ -168,6 +168,38 @@ fn order_of_refusals() {
 }
 
 #[test]
+fn images_in_lower_case() {
+    // A read of one byte that the capture shows high throughout: each bit of the
+    // image's byte that is 0 is told, and so is each acknowledge.
+    let mut station = Station::new();
+    station.start();
+    for byte in [0xA0, 0x00, 0x0A] {
+        station.bits(byte);
+        station.bit(1);
+    }
+    station.lines(0, 1);
+    station.lines(1, 1);
+    station.start();
+    for byte in [0xA1, 0xFF] {
+        station.bits(byte);
+        station.bit(1);
+    }
+    let said = |image: &str| report(station.text.as_bytes(), image.as_bytes(), USUAL);
+    let upper = said(":02000A00CAFF2B\n:00000001FF\n").unwrap();
+    assert_eq!((upper.given, upper.places.len()), (2, 4 + 4));
+    for image in [":02000a00caff2b\n:00000001ff\n", ":02000a00cAFf2B\n:00000001fF\n"] {
+        assert_eq!(said(image).as_ref(), Ok(&upper));
+    }
+    let blank = said(":00000001ff\n").unwrap();
+    assert_eq!((blank.given, blank.places.len()), (0, 4));
+    let refusal = said(":02000a00cagf2b\n:00000001ff\n").unwrap_err();
+    assert_eq!((refusal.number, refusal.place), (12, 0));
+    // Places alone are printed.
+    let text = report_text(station.text.as_bytes(), b":00000001ff\n", USUAL);
+    assert_eq!(text.lines().count(), 4);
+}
+
+#[test]
 fn words() {
     let which = |words: &[&str]| {
         let words: Vec<OsString> = words.iter().map(OsString::from).collect();

@@ -1,5 +1,5 @@
 -- `cells::give` meets its contract: what is tested and given so far, and what is left, is the whole.
-use mathlib.Core.Bool.{◌&&◌}
+use mathlib.Core.Bool.{true, ◌&&◌}
 use Prim.Native.Nat.{◌≤◌, ◌-◌}
 use mathlib.Core.Path.{◌≡◌, refl, ◌∙◌}
 use mathlib.Core.List.{◌++◌}
@@ -7,8 +7,9 @@ use native.Mathlib.Omega.{arith}
 use native.Mathlib.Numerals.{add-one}
 use borrow.Author.Rules.{rules}
 use lib.ListN.{length, take, drop, length-set}
+use Rattle.cells.specs.Bytes.{all_bytes}
 use Rattle.cells.specs.Cells.{fresh_of, give_of}
-use Rattle.cells.proofs.CellLaws.{fresh-turn, fresh-done, give-turn, give-done}
+use Rattle.cells.proofs.CellLaws.{fresh-turn, fresh-done, give-turn, give-done, bytes-turn, bytes-done}
 use Rattle.cells.proofs.give.Statement.{statement}
 use Rattle.cells.proofs.give.Tie as tie
 
@@ -19,12 +20,13 @@ invariant-loop cells₀ bytes fresh₀ i₀ cells fresh i =
     × (length bytes ≤ length cells₀)
     × ((fresh && fresh_of (drop i cells) (drop i bytes)) ≡ fresh_of cells₀ bytes)
     × (take i cells ++ give_of (drop i cells) (drop i bytes) ≡ give_of cells₀ bytes)
+    × (all_bytes (take i bytes) ≡ true)
 
 abbrev decreases-loop : tie.decreases-loop
 decreases-loop cells₀ bytes fresh₀ i₀ cells fresh i = length bytes - i
 
 loop-holds : tie.Need-loop-init invariant-loop decreases-loop
-loop-holds c = (search rules, refl, c.before.before.requires, refl, refl)
+loop-holds c = (search rules, refl, c.before.before.requires, refl, refl, refl)
 
 mul-fresh : tie.Need-overflow-mul-fresh invariant-loop decreases-loop
 mul-fresh c = search rules
@@ -58,7 +60,8 @@ loop-again c =
       simp length-set at.invariant.1,
       at.invariant.2,
       rw add-one (fresh-turn at.cells bytes at.i _ at.fresh (omega arith) (omega arith) ∙ at.invariant.3),
-      rw add-one (give-turn at.cells bytes at.i _ (omega arith) (omega arith) c.wide.ensures ∙ at.invariant.4),
+      rw add-one (give-turn at.cells bytes at.i _ (omega arith) (omega arith) c.wide.ensures.0 ∙ at.invariant.4),
+      rw add-one (bytes-turn bytes at.i (omega arith) at.invariant.5 c.wide.ensures.1),
     )
 
 same_length : tie.Need-same-length invariant-loop decreases-loop
@@ -70,6 +73,7 @@ returns c =
     record {
       said = fresh-done at.cells _ at.i at.fresh (omega arith) at.invariant.3;
       given = give-done at.cells _ _ at.i (omega arith) at.invariant.4;
+      whole = bytes-done _ at.i (omega arith) at.invariant.5;
     }
 
 pub give_spec : {M : Type 1} → statement M

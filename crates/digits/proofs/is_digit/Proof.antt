@@ -10,8 +10,11 @@ within-requires c κs = search rules
 within-requires-2 : tie.Need-within-requires-2
 within-requires-2 c κs = search rules
 
+within-requires-3 : tie.Need-within-requires-3
+within-requires-3 c κs = search rules
+
 returns : tie.Need-returns
-returns c = digit-test _ c.before.within.ensures c.within2.ensures
+returns c = digit-test _ c.before.before.within.ensures c.before.within2.ensures c.within3.ensures
 
 pub is-digit-spec : {M : Type 1} → statement M
-is-digit-spec = tie.close (tie.spec within-requires within-requires-2 returns)
+is-digit-spec = tie.close (tie.spec within-requires within-requires-2 within-requires-3 returns)

@@ -26,21 +26,13 @@ shared-slice-read-disagree-2 c = omega arith
 disagree-requires : tie.Need-disagree-requires invariant-loop decreases-loop
 disagree-requires c κs = search rules
 
-add-put-decimal : tie.Need-overflow-add-put-decimal invariant-loop decreases-loop
-add-put-decimal c = omega arith
+add-put-line : tie.Need-overflow-add-put-line invariant-loop decreases-loop
+add-put-line c = omega arith
 
-put-decimal-requires : tie.Need-put-decimal-requires invariant-loop decreases-loop
-put-decimal-requires c κs =
+put-line-requires : tie.Need-put-line-requires invariant-loop decreases-loop
+put-line-requires c κs =
     let inv = c.before.before.before.before.before.before.loop.invariant in
     omega (arith, inv.few, inv.long)
-
-slice-write-out : tie.Need-slice-write-out invariant-loop decreases-loop
-slice-write-out c =
-    let inv = c.before.before.before.before.before.before.before.before.before.loop.invariant in
-    omega (arith, inv.few, inv.long, c.before.before.put-decimal.auto.1.0, c.before.before.put-decimal.ensures.1)
-
-add_at : tie.Need-overflow-add-at invariant-loop decreases-loop
-add_at c = omega arith
 
 add-i : tie.Need-overflow-add-i invariant-loop decreases-loop
 add-i c = omega arith
@@ -76,10 +68,8 @@ put-places-spec =
     shared-slice-read-disagree
     shared-slice-read-disagree-2
     disagree-requires
-    add-put-decimal
-    put-decimal-requires
-    slice-write-out
-    add_at
+    add-put-line
+    put-line-requires
     add-i
     loop-less
     loop-again

@@ -13,7 +13,7 @@ slice-aggregate-read-into : tie.Need-slice-aggregate-read-into
 slice-aggregate-read-into c = sym (length-take-le _ _ (omega arith))
 
 read-into-requires : tie.Need-read-into-requires
-read-into-requires c κs = (omega arith, sym (length-take-le _ _ (omega arith)))
+read-into-requires c κs = (omega arith, (sym (length-take-le _ _ (omega arith)), c.before.before.before.before.before.requires.1.1))
 
 same_length : tie.Need-same-length
 same_length c = search rules

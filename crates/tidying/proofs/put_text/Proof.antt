@@ -10,17 +10,18 @@ use Rattle.tidying.proofs.put_text.Tie as tie
 read-image-requires : tie.Need-read-image-requires
 read-image-requires c κs = search rules
 
-enum_told : tie.Need-enum-told
-enum_told c = search rules
-
-put-image-requires : tie.Need-put-image-requires
-put-image-requires c κs =
-    let start = c.before.before.before.before.before.before.before.before.before.before.before in
-    let read = c.before.before.before.before.before.before.read-image in
-    (read_known _ _ _ _ _ start.requires.0 read.ensures _ c.before.before.enum_told.given.1, (read.auto.1.1.0 ∙ start.requires.0, search rules))
-
 enum-known-reply : tie.Need-enum-known-reply
 enum-known-reply c = search rules
+
+put-counted-requires : tie.Need-put-counted-requires
+put-counted-requires c κs =
+    let start = c.before.before.before.before.before.before.before.before.before.before.before.before in
+    let read = c.before.before.before.before.before.before.before.read-image in
+    let known = read_known _ _ _ _ _ start.requires.0 read.ensures _ c.before.before.before.reply.given.1 in
+    (known, (read.auto.1.1.0 ∙ start.requires.0, search rules))
+
+enum-known-reply-2 : tie.Need-enum-known-reply-2
+enum-known-reply-2 c = search rules
 
 put-refusal-requires : tie.Need-put-refusal-requires
 unfolding lines_length
@@ -34,7 +35,10 @@ same-length-2 c = search rules
 
 returns : tie.Need-returns
 returns c =
-    shows-image _ _ _ _ _ c.before.before.before.before.before.before.before.before.before.before.before.before.before.before.requires.0 c.before.before.before.before.before.before.before.before.before.read-image.ensures _ _ _ _ c.before.before.before.before.before.enum_told.given.1 c.before.before.put-image.ensures
+    let start = c.before.before.before.before.before.before.before.before.before.before.before.before.before.before.before in
+    let read = c.before.before.before.before.before.before.before.before.before.before.read-image in
+    shows-image _ _ _ _ _ start.requires.0 read.ensures _ _ _ _
+    c.before.before.before.before.before.before.reply.given.1 c.before.before.put-counted.ensures
 
 same-length-3 : tie.Need-same-length-3
 same-length-3 c = search rules
@@ -44,16 +48,19 @@ same-length-4 c = search rules
 
 returns-2 : tie.Need-returns-2
 returns-2 c =
-    shows-refusal _ _ _ _ _ c.before.before.before.before.before.before.before.before.before.before.before.before.before.before.requires.0 c.before.before.before.before.before.before.before.before.before.read-image.ensures _ _ _ _ _ c.before.before.before.before.before.reply.given.1 c.before.before.put-refusal.ensures
+    let start = c.before.before.before.before.before.before.before.before.before.before.before.before.before.before in
+    let read = c.before.before.before.before.before.before.before.before.before.read-image in
+    shows-refusal _ _ _ _ _ start.requires.0 read.ensures _ _ _ _ _
+    c.before.before.before.before.before.reply2.given.1 c.before.before.put-refusal.ensures
 
 pub put-text-spec : {M : Type 1} → statement M
 put-text-spec =
     tie.close
     (tie.spec
     read-image-requires
-    enum_told
-    put-image-requires
     enum-known-reply
+    put-counted-requires
+    enum-known-reply-2
     put-refusal-requires
     same_length
     same-length-2

@@ -1,4 +1,5 @@
-//! An image on standard input, its fixed form or a refusal on standard output.
+//! An image on standard input; on standard output its fixed form and a line with
+//! how many addresses it gave, or a refusal alone.
 //!
 //! usage: tidy [PART]
 //!

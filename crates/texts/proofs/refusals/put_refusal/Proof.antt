@@ -13,40 +13,24 @@ put-decimal-requires c κs = search rules
 slice-write-out : tie.Need-slice-write-out
 slice-write-out c = search rules
 
-add-put-decimal : tie.Need-overflow-add-put-decimal
-add-put-decimal c = search rules
+add-put-line : tie.Need-overflow-add-put-line
+add-put-line c = search rules
 
-put-decimal-requires-2 : tie.Need-put-decimal-requires-2
-put-decimal-requires-2 c κs = simp length-set (omega arith)
-
-slice-write-out-2 : tie.Need-slice-write-out-2
-slice-write-out-2 c =
-    let d = c.before.before.before.before.before.before.put-decimal in
-    let e = c.before.before.put-decimal2.auto.1.0 ∙ length-set d.new.1.0 d.result 32 ∙ d.auto.1.0 in
-    omega arith
-
-add-result : tie.Need-overflow-add-result
-add-result c = search rules
+put-line-requires : tie.Need-put-line-requires
+put-line-requires c κs = simp length-set (omega arith)
 
 same_length : tie.Need-same-length
 same_length c =
     let d = c.before.before.before.before.before.before.put-decimal in
-    let b = c.before.before.put-decimal2 in
-    length-set b.new.1.0 b.result 10 ∙ b.auto.1.0 ∙ length-set d.new.1.0 d.result 32 ∙ d.auto.1.0
+    c.before.before.put-line.auto.1.0 ∙ length-set d.new.1.0 d.result 32 ∙ d.auto.1.0
 
 returns : tie.Need-returns
 returns c =
-    refusal-starts _ _ _ _ _ _ _ c.before.before.before.before.before.before.put-decimal.ensures.0 c.before.before.before.before.before.before.put-decimal.ensures.1 c.before.before.put-decimal2.ensures.0 c.before.before.put-decimal2.ensures.1 c.before.before.before.before.before.before.before.before.before.requires
+    let d = c.before.before.before.before.before.before.put-decimal in
+    let l = c.before.before.put-line in
+    let start = c.before.before.before.before.before.before.before.before.before in
+    refusal-starts _ _ _ _ _ _ _ d.ensures.0 d.ensures.1 l.ensures.0 l.ensures.1 start.requires
 
 pub put-refusal-spec : {M : Type 1} → statement M
 put-refusal-spec =
-    tie.close
-    (tie.spec
-    put-decimal-requires
-    slice-write-out
-    add-put-decimal
-    put-decimal-requires-2
-    slice-write-out-2
-    add-result
-    same_length
-    returns)
+    tie.close (tie.spec put-decimal-requires slice-write-out add-put-line put-line-requires same_length returns)

@@ -1,5 +1,7 @@
-//! Images that go with the dumps: mostly sound and small, some damaged.
+//! Images that go with the dumps: mostly sound and small, some damaged, and about
+//! half of them with digits in lower case.
 
+use crate::letters::change_case;
 use crate::record_harm::{harm_line, harm_records, harm_text};
 use crate::records::{sound_records, Record};
 use crate::rng::Rng;
@@ -26,6 +28,7 @@ pub fn image(rng: &mut Rng) -> (Vec<u8>, usize) {
     } else if rng.percent(DAMAGED_PERCENT) {
         text = damaged(rng, records, size);
     }
+    change_case(rng, &mut text);
     (text, size)
 }
 

@@ -24,6 +24,8 @@ mod damage;
 #[allow(dead_code)]
 #[path = "../generate/deeds.rs"]
 mod deeds;
+#[path = "../image_texts/letters.rs"]
+mod letters;
 #[allow(dead_code)]
 #[path = "../generate/master.rs"]
 mod master;

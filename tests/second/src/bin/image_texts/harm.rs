@@ -77,9 +77,10 @@ pub fn harm_line(rng: &mut Rng, lines: &mut Vec<Vec<u8>>) {
     }
     let at = rng.below(line.len() as u32) as usize;
     match rng.below(9) {
-        0 => line.make_ascii_lowercase(),
-        1 => line[at].make_ascii_lowercase(),
-        2 => line[at] = rng.pick(b"/:@G`ag \0\r\x7F\xC1"),
+        // What stands beside the digits in the code table.
+        0 | 1 => line[at] = rng.pick(b"/:@G`g"),
+        // What looks like a digit where some of its bits aren't looked at.
+        2 => line[at] = rng.pick(b" \0\r\x01\x06\x10\x19\x7F\xB1\xC1\xE1Zz"),
         3 => {
             line.remove(at);
         }
@@ -88,7 +89,7 @@ pub fn harm_line(rng: &mut Rng, lines: &mut Vec<Vec<u8>>) {
         6 => line.truncate(at),
         7 => line.extend(rng.pick(&[&b" "[..], b"\r", b"0", b"00", b"\0"])),
         // A digit for a digit: mostly 13, in the count 12.
-        _ => line[at] = rng.pick(b"0123456789ABCDEF"),
+        _ => line[at] = rng.pick(b"0123456789ABCDEFabcdef"),
     }
 }
 

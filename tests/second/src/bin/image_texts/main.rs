@@ -1,11 +1,12 @@
 //! Writes random image texts, sound and damaged, into a folder: 0000.hex ...
 //! For each it prints the part whose image it shall be, and its name: words
 //! for `tidy_cases`. Some of these parts are none, and some texts are made for
-//! a part of the other size.
+//! a part of the other size. About half have digits in lower case.
 //!
 //! usage: image_texts SEED COUNT FOLDER
 
 mod harm;
+mod letters;
 mod records;
 // The generator of the bench cases serves here as well; not all of it is used.
 #[allow(dead_code)]
@@ -13,6 +14,7 @@ mod records;
 mod rng;
 
 use harm::{harm_line, harm_records, harm_text};
+use letters::change_case;
 use records::{sound_records, Record};
 use rng::Rng;
 use second::image::LONGEST_TEXT;
@@ -35,7 +37,8 @@ fn main() -> io::Result<()> {
         let mut rng = Rng::new(seed.wrapping_mul(1_000_003).wrapping_add(index));
         let long = index % LONG_EVERY == LONG_EVERY - 1;
         let (part, size) = part_and_size(&mut rng, long);
-        let text = if long { long_text(&mut rng, size) } else { usual_text(&mut rng, size) };
+        let mut text = if long { long_text(&mut rng, size) } else { usual_text(&mut rng, size) };
+        change_case(&mut rng, &mut text);
         let name = format!("{index:04}.hex");
         std::fs::write(Path::new(folder).join(&name), text)?;
         println!("{part} {name}");
@@ -66,6 +69,7 @@ fn part_and_size(rng: &mut Rng, long: bool) -> (String, usize) {
 
 fn usual_text(rng: &mut Rng, size: usize) -> Vec<u8> {
     let mut records = sound_records(rng, size);
+    give_blanks(rng, &mut records);
     let harm = |rng: &mut Rng, chance| {
         if rng.percent(chance) {
             rng.between(1, 2)
@@ -86,6 +90,20 @@ fn usual_text(rng: &mut Rng, size: usize) -> Vec<u8> {
         harm_text(rng, &mut text);
     }
     text
+}
+
+/// FFh here and there among the data: it is given like any other value, though
+/// the array would be the same without it.
+fn give_blanks(rng: &mut Rng, records: &mut [Record]) {
+    let chance = rng.pick(&[0, 0, 10, 60]);
+    if chance == 0 {
+        return;
+    }
+    for byte in records.iter_mut().flat_map(|record| &mut record.data) {
+        if rng.percent(chance) {
+            *byte = 0xFF;
+        }
+    }
 }
 
 /// Puts the line ends in: one kind, or any.
