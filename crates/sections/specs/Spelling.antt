@@ -47,8 +47,8 @@ spelling =
 
 -- The first of two keywords if the test holds, else the second.
 abbrev pub keyword_by : Bool → Keyword → Keyword → Keyword
-keyword_by true k other = k
-keyword_by false k other = other
+keyword_by true k l = k
+keyword_by false k l = l
 
 -- The keyword of a word in such a list; a word that is not in it is none.
 abbrev pub keyword_in : List Spelt → List ℕ → Keyword

@@ -33,8 +33,8 @@ put_places-length-requires c =
     let pre = c.requires in
     let play = c.play-played in
     let h =
-      lines_fit _ _ _ _ _ _ _ _ _ pre.stands pre.levels_len play.ensures _ (play.auto.levels ∙ pre.levels_len)
-      (play.auto.answers ∙ pre.answers_len) pre.out_len in
+    lines_fit _ _ _ _ _ _ _ _ _ pre.stands pre.levels_len play.ensures _ (play.auto.levels ∙ pre.levels_len)
+    (play.auto.answers ∙ pre.answers_len) pre.out_len in
     record { answers_len = h.0; levels_bound = h.1.0; levels_in_bounds = h.1.1 }
 
 pub returns : goal.returns
