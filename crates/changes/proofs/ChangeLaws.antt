@@ -155,3 +155,6 @@ module _ (dump w : List ℕ) (mode : Mode) (begun : Bool) (r : Change) (h : chan
 
   pub says-breaks : r ≡ Breaks → says_of (body_at dump (place_of mode) begun) w ≡ breaks
   says-breaks e = sym h ∙ means-breaks r e
+
+-- What a value comes to.
+pub ruleset valuing = (value-given, value-unknown, tail-whole)

@@ -42,6 +42,7 @@ fn time(digits: &[u8]) -> Change
 }
 
 // A value for the wires of a code.
+#[tactic(auto, using(crate::proofs::ChangeLaws::valuing), unfolding(crate::specs::Parts::change_meant))]
 fn value(dump: &[u8], table: &[u8], begun: bool, word: &[u8]) -> Change
     requires tabled { Tabled (vars_of dump.now) table.now }
     requires word_nonzero { 0 < length word.now }

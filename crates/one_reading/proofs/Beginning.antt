@@ -1,4 +1,5 @@
 -- Laws of reading up to the first time line: no fault so far, and what is left gives the same samples. Assumes nothing.
+use borrow.Author.Tests.{not-false}
 use Prim.Native.Nat.{ℕ, ◌-◌}
 use mathlib.Core.Bool.{true, false, true≢false}
 use mathlib.Core.List.{List, []}
@@ -131,3 +132,6 @@ module _ (dump table : List ℕ) (h : Heading) (d : Defines dump h table) (r : S
 
   pub starts-undefined : h.over ≡ false → Starts dump r
   starts-undefined o = starts_none (undefined-faulty dump table h d o)
+
+-- What a start comes to where the definitions have ended.
+pub ruleset starting = (starts-faulty, starts-defined, not-false)

@@ -123,6 +123,7 @@ fn first_time(dump: &[u8], table: &[u8], from: usize, on: usize) -> Started
 }
 
 // The start of a dump behind its definitions, if nothing is wrong with them.
+#[tactic(auto, using(crate::proofs::Beginning::starting))]
 pub fn start(dump: &[u8], table: &[u8], heading: Heading) -> Started
     requires { Defines dump.now heading table.now }
     ensures { Starts dump.now result }
