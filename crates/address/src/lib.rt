@@ -11,18 +11,6 @@ use part::state::{BusAddress, Control, Device, Phase, Talk};
 
 pub const REGISTER_ADDRESS: u16 = 0xffff;
 
-// SDA pulled low for an acknowledge, with the phase after it.
-pub fn acknowledge(phase: Phase) -> Talk
-    ensures { result ≡ acknowledged phase }
-{
-    Talk {
-        phase,
-        high: 0,
-        out: 0,
-        own: false,
-    }
-}
-
 // SDA released, nothing being sent.
 pub fn rest(phase: Phase) -> Talk
     ensures { result ≡ rested phase }
@@ -35,32 +23,42 @@ pub fn rest(phase: Phase) -> Talk
     }
 }
 
+// SDA pulled low for an acknowledge, with the phase after it.
+pub fn acknowledge(phase: Phase) -> Talk
+    ensures { result ≡ acknowledged phase }
+{
+    Talk {
+        own: false,
+        ..rest(phase)
+    }
+}
+
 pub fn choose(c: Control, chosen: bool) -> Control
     ensures { result ≡ with_chosen c chosen }
 {
-    let mut next = c;
-    next.chosen = chosen;
-    next
+    Control { chosen, ..c }
 }
 
 // A register byte pends.
 pub fn pend(c: Control, value: u8) -> Control
     ensures { result ≡ pends c value }
 {
-    let mut next = c;
-    next.pending = true;
-    next.value = value;
-    next
+    Control {
+        pending: true,
+        value,
+        ..c
+    }
 }
 
 // No register byte pends.
 pub fn unpend(c: Control) -> Control
     ensures { result ≡ none_pends c }
 {
-    let mut next = c;
-    next.pending = false;
-    next.value = 0;
-    next
+    Control {
+        pending: false,
+        value: 0,
+        ..c
+    }
 }
 
 // Whether a slave byte names this part.
@@ -70,71 +68,55 @@ fn is_ours(select: u8, v: u8) -> bool
     (v / 8 == 20) & (v / 2 % 4 == select)
 }
 
+#[tactic(auto, unfolding(crate::specs::Address::slave_of))]
 pub fn slave(select: u8, d: Device, v: u8) -> Device
     ensures { result ≡ slave_of select d v }
 {
-    let control = d.control;
-    let mut next = d;
-    if is_ours(select, v) {
-        if v % 2 == 1 {
-            if control.chosen {
-                let t = acknowledge(Phase::SendRegister);
-                next.talk = t;
-                return next;
-            }
-            let t = acknowledge(Phase::Send);
-            next.talk = t;
-            return next;
-        }
-        let t = acknowledge(Phase::High);
-        next.talk = t;
-        return next;
-    }
-    let t = rest(Phase::Silent);
-    next.talk = t;
-    next
+    let talk = if !is_ours(select, v) {
+        rest(Phase::Silent)
+    } else if v % 2 == 0 {
+        acknowledge(Phase::High)
+    } else if d.control.chosen {
+        acknowledge(Phase::SendRegister)
+    } else {
+        acknowledge(Phase::Send)
+    };
+    Device { talk, ..d }
 }
 
+#[tactic(auto, unfolding(crate::specs::Address::high_of))]
 pub fn high(d: Device, v: u8) -> Device
     ensures { result ≡ high_of d v }
 {
-    let t = Talk {
-        phase: Phase::Low,
+    let talk = Talk {
         high: v,
-        out: 0,
-        own: false,
+        ..acknowledge(Phase::Low)
     };
-    let mut next = d;
-    next.talk = t;
-    next
+    Device { talk, ..d }
 }
 
 fn address(high: u8, low: u8) -> BusAddress
     ensures { result ≡ address_of high low }
 {
-    BusAddress((high as u16) * 256 + (low as u16))
+    BusAddress(u16::from_be_bytes([high, low]))
 }
 
 // The address is whole: it chooses the register, or sets the counter.
+#[tactic(auto, unfolding(crate::specs::Address::low_of))]
 pub fn low(kind: Kind, d: Device, v: u8) -> Device
     ensures { result ≡ low_of kind d v }
 {
-    let talk = d.talk;
-    let control = d.control;
-    let a = address(talk.high, v);
-    let mut next = d;
-    if a.0 == REGISTER_ADDRESS {
-        let t = acknowledge(Phase::Register);
-        let c = choose(control, true);
-        next.talk = t;
-        next.control = c;
-        return next;
+    let address = address(d.talk.high, v);
+    if address.0 == REGISTER_ADDRESS {
+        return Device {
+            talk: acknowledge(Phase::Register),
+            control: choose(d.control, true),
+            ..d
+        };
     }
-    let t = acknowledge(Phase::Data);
-    let c = choose(control, false);
-    let p = page::place_of(kind, a);
-    next.talk = t;
-    next.counter = p;
-    next.control = c;
-    next
+    Device {
+        talk: acknowledge(Phase::Data),
+        counter: page::place_of(kind, address),
+        control: choose(d.control, false),
+    }
 }

@@ -1,6 +1,6 @@
 -- Laws of what is copied: an array and its copy, and places brought from a room into a row. Assumes nothing.
 use Prim.Native.Nat.{ℕ, min, ◌≤◌}
-use mathlib.Core.Bool.{Bool, true, false, true≢false}
+use mathlib.Core.Bool.{Bool, true, false}
 use mathlib.Core.List.{List, ◌++◌}
 use mathlib.Core.Path.{◌≡◌, refl, ap, sym, subst, ◌∙◌}
 use native.Mathlib.Omega.{arith}
@@ -8,14 +8,14 @@ use lib.Dec.{leb}
 use lib.ListN.{length, take, drop, length-take, drop_of_length-le}
 use lib.Seq.{take-length, take_all, take-take, take-append-le}
 use borrow.Author.Tests.{leb-true, leb-false}
+use Rattle.std.specs.Bool.{then_some}
 use Rattle.part.specs.Bench.{part_of}
 use Rattle.part.specs.declared.state.State.{State}
 use Rattle.sample.specs.Run.{Part}
 use Rattle.dumps.specs.Samples.{samples_in}
 use Rattle.places.specs.Places.{places_in, laid_over}
 use Rattle.one_reading.specs.declared.Track.{Track}
-use Rattle.at_once.specs.declared.Ended.{Ended}
-use Rattle.at_once.specs.Promises.{Ready, Whole, Passes, Tries}
+use Rattle.at_once.specs.Promises.{Ready, Whole, Tries}
 use Rattle.places.specs.Parts.{LaysOut, BringsOut}
 
 -- As many places as there are and as a row wants are those that are laid over it.
@@ -55,33 +55,28 @@ whole_out dump p room₀ found array room row row' done w l o d =
       kept = w.kept;
     }
 
--- A reading of which nothing came has changed nothing.
-pub tries-undone : (dump : List ℕ) (s : State) (array row : List ℕ) (r : Ended) (array' row' : List ℕ)
-    → r ≡ record { sound = false; found = 0 } → array' ≡ array → row' ≡ row → Tries dump s array row r array' row'
-tries-undone dump s array row r array' row' e a b =
-    let f : r.sound ≡ false = ap (λ (z : Ended). z.sound) e in
-    record { whole = λ h. absurd (true≢false (sym h ∙ f)); kept = λ h. a; laid = λ h. b }
-
 module _ (dump : List ℕ) (s : State) (array copy copy₁ : List ℕ) (l : length copy ≡ length array)
     (same : copy₁ ≡ array) where
   -- What is ready with an array is so with a copy of it.
   pub ready-copied : (table : List ℕ) (t : Track) → Ready dump table t s array → Ready dump table t s copy₁
   ready-copied table t g = rw same g
 
-  -- A reading on a copy that ended sound, with copy and places brought out.
-  pub tries-done : (room₀ : List ℕ) (r : Ended) (copy₂ room : List ℕ) → Passes dump (part_of s copy₁) room₀ r copy₂ room
-      → r.sound ≡ true → length room ≡ length room₀
-      → (row : List ℕ) (done : Bool) (array' row' : List ℕ) → BringsOut room r.found copy₂ array row done array' row' → done ≡ true
-      → Tries dump s array row r array' row'
-  tries-done room₀ r copy₂ room x h n row done array' row' o d =
-      let sound = h in
-      let w : Whole dump (part_of s array) room₀ r.found copy₂ room =
-      subst (λ (z : List ℕ). Whole dump (part_of s z) room₀ r.found copy₂ room) same (x.whole sound)
+  -- A reading on a copy that came to its end, with copy and places brought out.
+  pub tries-done : (room₀ : List ℕ) (found : ℕ) (copy₂ room : List ℕ) → Whole dump (part_of s copy₁) room₀ found copy₂ room
+      → length room ≡ length room₀
+      → (row : List ℕ) (done : Bool) (array' row' : List ℕ) → BringsOut room found copy₂ array row done array' row' → done ≡ true
+      → Whole dump (part_of s array) row found array' row'
+  tries-done room₀ found copy₂ room x n row done array' row' o d =
+      let w : Whole dump (part_of s array) room₀ found copy₂ room =
+      subst (λ (z : List ℕ). Whole dump (part_of s z) room₀ found copy₂ room) same x
       in
-      let k : array' ≡ copy₂ = o.brought d in
-      let v = whole_out dump (part_of s array) room₀ r.found copy₂ room row row' done w n o.laid d in
-      record {
-        whole = λ z. subst (λ (q : List ℕ). Whole dump (part_of s array) row r.found q row') (sym k) v;
-        kept = λ z. absurd (true≢false (sym sound ∙ z));
-        laid = λ z. absurd (true≢false (sym sound ∙ z));
-      }
+      let v = whole_out dump (part_of s array) room₀ found copy₂ room row row' done w n o.laid d in
+      subst (λ (q : List ℕ). Whole dump (part_of s array) row found q row') (sym (o.brought d)) v
+
+  -- Brought out or not.
+  pub tries-by : (room₀ : List ℕ) (found : ℕ) (copy₂ room : List ℕ) → Whole dump (part_of s copy₁) room₀ found copy₂ room
+      → length room ≡ length room₀
+      → (row : List ℕ) (done : Bool) (array' row' : List ℕ) → BringsOut room found copy₂ array row done array' row'
+      → Tries dump s array row (then_some done found) array' row'
+  tries-by room₀ found copy₂ room x n row true array' row' o = tries-done room₀ found copy₂ room x n row true array' row' o refl
+  tries-by room₀ found copy₂ room x n row false array' row' o = (o.kept refl, o.laid.kept refl)

@@ -1,15 +1,15 @@
 -- Laws from a dump and a part that are ready to the report. Assumes nothing.
 use Prim.Native.Nat.{ℕ}
-use mathlib.Core.Bool.{false, not, true≢false}
+use mathlib.Core.Bool.{false, true≢false}
 use mathlib.Core.List.{List}
 use mathlib.Core.Path.{◌≡◌, refl, ap, sym, subst, ◌∙◌}
 use lib.ListN.{length}
+use Rattle.std.specs.Prelude.{Option, Result, Some, None, Ok, Err}
+use Rattle.std.specs.Result.{is_err}
 use Rattle.ground.specs.Kind.{kind_of}
 use Rattle.ground.specs.declared.kinds.Kind.{Kind}
 use Rattle.ground.specs.Verdict.{accepted, meant}
-use Rattle.ground.specs.declared.Reply.{Reply}
-use Rattle.ground.specs.declared.Reply.TheVariants.{Accepted}
-use Rattle.ground.proofs.Tests.{not-failed}
+use Rattle.ground.specs.declared.Refusal.{Refusal}
 use Rattle.ground.proofs.Verdicts.{is-accepted}
 use Rattle.part.specs.Bench.{part_of}
 use Rattle.part.specs.declared.state.State.{State}
@@ -20,40 +20,47 @@ use Rattle.power.specs.declared.Replayed.{Replayed}
 use Rattle.sample.specs.Run.{Part}
 use Rattle.ranges.specs.Fit.{Fit}
 use Rattle.onward.proofs.Onward.{power-fit}
+use Rattle.dumps.specs.Defined.{vars_of}
 use Rattle.headings.specs.declared.Heading.{Heading}
-use Rattle.headings.specs.Parts.{Defines}
+use Rattle.headings.specs.declared.faults.Fault.{Fault}
+use Rattle.headings.specs.Parts.{Defines, Tabled}
 use Rattle.places.specs.Places.{places_of}
-use Rattle.one_reading.specs.declared.Started.{Started}
-use Rattle.one_reading.specs.Promises.{Starts}
+use Rattle.one_reading.specs.declared.Track.{Track}
+use Rattle.one_reading.specs.Promises.{SetsOut}
 use Rattle.disagreements.specs.Promises.{Reports}
 use Rattle.disagreements.proofs.Openings.{dump-decides}
-use Rattle.at_once.specs.declared.Ended.{Ended}
 use Rattle.at_once.specs.Promises.{Ready, Whole, Tries, TriesReport}
 
--- A dump that starts sound is ready for a part that is fit.
-pub ready : (dump table : List ℕ) (heading : Heading) (r : Started) (s : State) (array : List ℕ) → Defines dump heading table → Starts dump r
-    → not r.sound ≡ false → Fit (part_of s array) → Ready dump table r.track s array
-ready dump table heading r s array d x h f =
-    let sound = not-failed r.sound h in
-    record { tabled = d.tabled; sound = x.sound sound; left = x.left sound; low = x.low sound; fit = f }
+-- A dump that sets out is ready for a part that is fit.
+-- However the definitions ended, their table is that of the wires declared.
+pub defined-tabled : (dump table : List ℕ) (r : Result Heading Fault) → Defines dump r table → Tabled (vars_of dump) table
+defined-tabled dump table (Ok heading) d = d.tabled
+defined-tabled dump table (Err fault) d = d.tabled
+
+pub ready : (dump table : List ℕ) (t : Track) (s : State) (array : List ℕ) → Tabled (vars_of dump) table → SetsOut dump t
+    → Fit (part_of s array) → Ready dump table t s array
+ready dump table t s array d x f = record { tabled = d; going = x.going; left = x.left; low = x.low; fit = f }
+
+-- What `is_err` says of a reply.
+ok-told : (r : Result ℕ Refusal) → is_err r ≡ false → (n : ℕ) × (r ≡ Ok n)
+ok-told (Ok n) e = (n, refl)
+ok-told (Err k) e = absurd (true≢false e)
 
 module _ (part select stored : ℕ) (dump array row : List ℕ) where
-  -- Nothing came of it: nothing has changed.
-  pub report-undone : (r : Ended) → r ≡ record { sound = false; found = 0 } → TriesReport part select stored dump array row r array row
-  report-undone r e =
-      let f : r.sound ≡ false = ap (λ (z : Ended). z.sound) e in
-      record { reports = λ h. absurd (true≢false (sym h ∙ f)); kept = λ h. refl; laid = λ h. refl }
+  -- Where nothing came of it the report in two readings has the rows as they came.
+  pub report-left : (array₁ row₁ : List ℕ) → (array₁ ≡ array) × (row₁ ≡ row) → (r : Result ℕ Refusal) (array' row' : List ℕ)
+      → Reports part select stored dump array₁ row₁ r array' row' → Reports part select stored dump array row r array' row'
+  report-left array₁ row₁ x r array' row' y = rw (x.0, x.1) at y
 
-  -- Then the report in two readings has the rows as they came.
-  pub report-left : (t : Ended) (array₁ row₁ : List ℕ) → TriesReport part select stored dump array row t array₁ row₁ → t.sound ≡ false
-      → (r : Reply) (array' row' : List ℕ) → Reports part select stored dump array₁ row₁ r array' row'
-      → Reports part select stored dump array row r array' row'
-  report-left t array₁ row₁ x h r array' row' y =
-      subst (λ (a : List ℕ). Reports part select stored dump a row r array' row') (x.kept h)
-      (subst (λ (q : List ℕ). Reports part select stored dump array₁ q r array' row') (x.laid h) y)
-
-  module _ (p : Replayed) (u : PowersUp part select stored p) (n : ℕ) (a : p.reply ≡ Accepted n) (kind : Kind) (k : kind ≡ kind_of part)
+  module _ (p : Replayed) (u : PowersUp part select stored p) (b : is_err p.reply ≡ false) (kind : Kind) (k : kind ≡ kind_of part)
       (h : length array ≡ kind.size) where
+    n : ℕ
+    n = (ok-told p.reply b).0
+
+    a : p.reply ≡ Ok n
+    unfolding n
+    a = (ok-told p.reply b).1
+
     powers : power_of part select stored ≡ accepted n
     powers = is-accepted p.reply (power_of part select stored) n u.reply a
 
@@ -71,7 +78,7 @@ module _ (part select stored : ℕ) (dump array row : List ℕ) where
 
     -- A whole from there on is the report.
     pub whole-reports : (found : ℕ) (array' row' : List ℕ) → Whole dump (part_of p.state array) row found array' row'
-        → Reports part select stored dump array row (Accepted found) array' row'
+        → Reports part select stored dump array row (Ok found) array' row'
     unfolding meant places_of
     whole-reports found array' row' w =
         let v = dump-decides part select stored dump array n powers sized ∙ w.verdict in
@@ -80,7 +87,7 @@ module _ (part select stored : ℕ) (dump array row : List ℕ) where
         in
         record { reply = rw v (ap accepted x.count); kept = rw v x.kept; said = rw v x.said }
 
-    pub tries-report : (r : Ended) (array' row' : List ℕ) → Tries dump p.state array row r array' row'
+    pub tries-report : (r : Option ℕ) (array' row' : List ℕ) → Tries dump p.state array row r array' row'
         → TriesReport part select stored dump array row r array' row'
-    tries-report r array' row' t =
-        record { reports = λ z. whole-reports r.found array' row' (t.whole z); kept = t.kept; laid = t.laid }
+    tries-report (Some found) array' row' t = whole-reports found array' row' t
+    tries-report None array' row' t = t

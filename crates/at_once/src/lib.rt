@@ -2,7 +2,7 @@
 // end is the copy brought out. Whatever else comes is left to the report in two readings.
 #![tactic(auto)]
 
-ghost use Rattle.std.specs.Prelude.{◌≡◌, false, length};
+ghost use Rattle.std.specs.Prelude.{◌≡◌, ◌≤◌, length};
 ghost use Rattle.part.specs.Bench.{part_of};
 ghost use Rattle.ranges.specs.Fit.{Fit};
 ghost use Rattle.disagreements.specs.Promises.{Reports};
@@ -32,24 +32,7 @@ const SMALL: usize = kinds::SMALL_SIZE as usize;
 
 const LARGE: usize = kinds::LARGE_SIZE as usize;
 
-// How a reading ended: whether the dump was sound to its end, and how many places disagree.
-#[derive(Clone, Copy)]
-struct Ended {
-    sound: bool,
-    found: usize,
-}
-
-// Nothing came of a reading.
-fn undone() -> Ended
-    ensures { result ≡ record { sound = false; found = 0 } }
-{
-    Ended {
-        sound: false,
-        found: 0,
-    }
-}
-
-// Reads, judges and replays a dump piece after piece, as long as nothing is wrong with it.
+// Reads, judges and replays a dump piece after piece, and answers how many places disagree; nothing comes of it where something is wrong.
 fn play_through(
     dump: &[u8],
     table: &[u8],
@@ -60,29 +43,19 @@ fn play_through(
     elapsed: &mut [u32],
     levels: &mut [u8],
     answers: &mut [u8],
-) -> Ended
+) -> Option<usize>
     requires ready { Ready dump.now table.now «from» powered array.old }
     requires elapsed_len { length elapsed.old ≡ 1024 }
     requires levels_len { length levels.old ≡ 1024 }
     requires answers_len { length answers.old ≡ 1024 }
     ensures { Passes dump.now (part_of powered array.old) room.old result array.new room.new }
 {
-    let mut track = from;
+    let mut track = Some(from);
     let mut state = powered;
     let mut next = 0;
     let mut found = 0;
-    loop {
-        let mark = track.mark;
-        if mark.over {
-            return Ended { sound: true, found };
-        }
-        let went = one_reading::fill(dump, table, track, elapsed, levels);
-        if !went.sound {
-            return Ended {
-                sound: false,
-                found,
-            };
-        }
+    while let Some(here) = track {
+        let went = one_reading::fill(dump, table, Some(here), elapsed, levels)?;
         let count = went.count;
         let replayed = twin::replay(
             state,
@@ -96,6 +69,7 @@ fn play_through(
         next += count;
         track = went.track;
     }
+    Some(found)
 }
 
 // Plays a dump through on a copy of the array, and brings copy and places out if all of it was sound.
@@ -108,7 +82,7 @@ fn on_copy(
     copy: &mut [u8],
     room: &mut [u64],
     places: &mut [u64],
-) -> Ended
+) -> Option<usize>
     requires ready { Ready dump.now table.now «from» powered array.old }
     requires copy_len { length copy.old ≡ length array.old }
     ensures { Tries dump.now powered array.old places.old result array.new places.new }
@@ -117,7 +91,7 @@ fn on_copy(
     let mut elapsed = [0u32; PIECE];
     let mut levels = [0u8; PIECE];
     let mut answers = [0u8; PIECE];
-    let ended = play_through(
+    let found = play_through(
         dump,
         table,
         from,
@@ -127,14 +101,8 @@ fn on_copy(
         &mut elapsed,
         &mut levels,
         &mut answers,
-    );
-    if !ended.sound {
-        return undone();
-    }
-    if !places::bring_out(room, ended.found, copy, array, places) {
-        return undone();
-    }
-    ended
+    )?;
+    places::bring_out(room, found, copy, array, places).then_some(found)
 }
 
 // Reads a dump once for a part that is powered up.
@@ -145,18 +113,14 @@ fn read_once(
     copy: &mut [u8],
     room: &mut [u64],
     places: &mut [u64],
-) -> Ended
+) -> Option<usize>
     requires fit { Fit (part_of powered array.old) }
     requires copy_len { length copy.old ≡ length array.old }
     ensures { Tries dump.now powered array.old places.old result array.new places.new }
 {
     let mut table = [0u8; headings::CODES];
-    let heading = headings::define(dump, &mut table);
-    let started = one_reading::start(dump, &table, heading);
-    if !started.sound {
-        return undone();
-    }
-    let track = started.track;
+    let defined = headings::define(dump, &mut table);
+    let track = one_reading::start(dump, &table, defined)?;
     on_copy(dump, &table, track, powered, array, copy, room, places)
 }
 
@@ -170,21 +134,36 @@ fn try_once(
     copy: &mut [u8],
     room: &mut [u64],
     places: &mut [u64],
-) -> Ended
+) -> Option<usize>
     requires { length copy.old ≡ length array.old }
     ensures { TriesReport part select stored dump.now array.old places.old result array.new places.new }
 {
     let powered = twin::power_up(part, select, stored);
-    let reply = powered.reply;
-    let Reply::Accepted(_) = reply else {
-        return undone();
-    };
-    let kind = kinds::kind_of(part);
-    if array.len() != kind.size as usize {
-        return undone();
+    if powered.reply.is_err() {
+        return None;
     }
-    let state = powered.state;
-    read_once(dump, state, array, copy, room, places)
+    let kind = kinds::kind_of(part);
+    if array.len() != usize::from(kind.size) {
+        return None;
+    }
+    read_once(dump, powered.state, array, copy, room, places)
+}
+
+// On a copy of an array of a size.
+fn on_array<const SIZE: usize>(
+    part: u16,
+    select: u8,
+    stored: u8,
+    dump: &[u8],
+    array: &mut [u8],
+    room: &mut [u64],
+    places: &mut [u64],
+) -> Option<usize>
+    requires { length array.old ≡ SIZE }
+    ensures { TriesReport part select stored dump.now array.old places.old result array.new places.new }
+{
+    let mut copy = [0u8; SIZE];
+    try_once(part, select, stored, dump, array, &mut copy, room, places)
 }
 
 // On a copy of the array, whichever part's it is.
@@ -196,18 +175,30 @@ fn by_size(
     array: &mut [u8],
     room: &mut [u64],
     places: &mut [u64],
-) -> Ended
+) -> Option<usize>
     ensures { TriesReport part select stored dump.now array.old places.old result array.new places.new }
 {
-    if array.len() == SMALL {
-        let mut copy = [0u8; SMALL];
-        return try_once(part, select, stored, dump, array, &mut copy, room, places);
+    match array.len() {
+        SMALL => on_array::<SMALL>(part, select, stored, dump, array, room, places),
+        LARGE => on_array::<LARGE>(part, select, stored, dump, array, room, places),
+        _ => None,
     }
-    if array.len() == LARGE {
-        let mut copy = [0u8; LARGE];
-        return try_once(part, select, stored, dump, array, &mut copy, room, places);
-    }
-    undone()
+}
+
+// With a room for so many places.
+fn in_room<const ROOM: usize>(
+    part: u16,
+    select: u8,
+    stored: u8,
+    dump: &[u8],
+    array: &mut [u8],
+    places: &mut [u64],
+) -> Option<usize>
+    requires { ROOM ≤ 16384 }
+    ensures { TriesReport part select stored dump.now array.old places.old result array.new places.new }
+{
+    let mut room = [0u64; ROOM];
+    by_size(part, select, stored, dump, array, &mut room, places)
 }
 
 // With a room by the dump's length.
@@ -218,19 +209,16 @@ fn by_length(
     dump: &[u8],
     array: &mut [u8],
     places: &mut [u64],
-) -> Ended
+) -> Option<usize>
     ensures { TriesReport part select stored dump.now array.old places.old result array.new places.new }
 {
     if dump.len() <= SHORT {
-        let mut room = [0u64; FEW];
-        return by_size(part, select, stored, dump, array, &mut room, places);
+        in_room::<FEW>(part, select, stored, dump, array, places)
+    } else if dump.len() <= LONGER {
+        in_room::<MORE>(part, select, stored, dump, array, places)
+    } else {
+        in_room::<MANY>(part, select, stored, dump, array, places)
     }
-    if dump.len() <= LONGER {
-        let mut room = [0u64; MORE];
-        return by_size(part, select, stored, dump, array, &mut room, places);
-    }
-    let mut room = [0u64; MANY];
-    by_size(part, select, stored, dump, array, &mut room, places)
 }
 
 // The report of a whole dump: how many places disagree, and the first of them in the row, ascending. A refusal changes nothing.
@@ -244,10 +232,8 @@ pub fn report(
 ) -> Reply
     ensures { Reports part select stored dump.now array.old places.old result array.new places.new }
 {
-    let tried = by_length(part, select, stored, dump, array, places);
-    if tried.sound {
-        let found = tried.found;
-        return Reply::Accepted(found);
+    match by_length(part, select, stored, dump, array, places) {
+        Some(found) => Ok(found),
+        None => disagreements::report(part, select, stored, dump, array, places),
     }
-    disagreements::report(part, select, stored, dump, array, places)
 }

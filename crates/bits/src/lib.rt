@@ -13,33 +13,21 @@ use part::state::{Device, Phase, Talk};
 fn release(t: Talk) -> Talk
     ensures { result ≡ released t }
 {
-    let mut next = t;
-    next.own = true;
-    next
+    Talk { own: true, ..t }
 }
 
 // Whether a byte is being sent in a phase.
 pub fn sends(phase: Phase) -> bool
     ensures { result ≡ sends_in phase }
 {
-    match phase {
-        Phase::Send => true,
-        Phase::SendRegister => true,
-        Phase::Idle => false,
-        Phase::Silent => false,
-        Phase::Slave => false,
-        Phase::High => false,
-        Phase::Low => false,
-        Phase::Data => false,
-        Phase::Register => false,
-    }
+    matches!(phase, Phase::Send | Phase::SendRegister)
 }
 
 // The byte being sent, one bit on.
 pub fn shifted(out: u8) -> u8
     ensures { result ≡ shifted_of out }
 {
-    ((out as u16) * 2 % 256) as u8
+    out.wrapping_mul(2)
 }
 
 // The bit of it that goes out.
@@ -64,77 +52,65 @@ fn send(phase: Phase, v: u8) -> Talk
 fn next_bit(phase: Phase, d: Device) -> Device
     ensures { result ≡ next_bit phase d }
 {
-    let talk = d.talk;
-    let v = shifted(talk.out);
-    let t = send(phase, v);
-    let mut next = d;
-    next.talk = t;
-    next
+    Device {
+        talk: send(phase, shifted(d.talk.out)),
+        ..d
+    }
 }
 
 // The device after a bit below the eighth.
+#[tactic(auto, unfolding(crate::specs::Bits::bit_of))]
 pub fn bit(d: Device) -> Device
     ensures { result ≡ bit_of d }
 {
-    let talk = d.talk;
-    let phase = talk.phase;
-    if sends(phase) {
-        return next_bit(phase, d);
+    match d.talk.phase {
+        phase @ (Phase::Send | Phase::SendRegister) => next_bit(phase, d),
+        _ => d,
     }
-    d
 }
 
 fn heard(d: Device) -> Device
     ensures { result ≡ with_talk d (released d.talk) }
 {
-    let talk = d.talk;
-    let t = release(talk);
-    let mut next = d;
-    next.talk = t;
-    next
+    Device {
+        talk: release(d.talk),
+        ..d
+    }
 }
 
 fn send_array(kind: Kind, array: &[u8], b: bool, d: Device) -> Device
     ensures { result ≡ answered_by b kind array.now d }
 {
-    let mut next = d;
     if b {
-        let t = address::rest(Phase::Silent);
-        next.talk = t;
-        return next;
+        return Device {
+            talk: address::rest(Phase::Silent),
+            ..d
+        };
     }
-    let v = page::fetched(array, d.counter);
-    let t = send(Phase::Send, v);
-    let p = page::next_in_array(kind, d.counter);
-    next.talk = t;
-    next.counter = p;
-    next
+    Device {
+        talk: send(Phase::Send, page::fetched(array, d.counter)),
+        counter: page::next_in_array(kind, d.counter),
+        ..d
+    }
 }
 
 fn send_register(d: Device) -> Device
     ensures { result ≡ fetch_register d }
 {
-    let v = control::reads(d.control);
-    let t = send(Phase::SendRegister, v);
-    let mut next = d;
-    next.talk = t;
-    next
+    Device {
+        talk: send(Phase::SendRegister, control::reads(d.control)),
+        ..d
+    }
 }
 
 // The device after a ninth bit.
+#[tactic(auto, unfolding(crate::specs::Bits::ninth_of))]
 pub fn ninth(kind: Kind, array: &[u8], b: bool, d: Device) -> Device
     ensures { result ≡ ninth_of kind array.now b d }
 {
-    let talk = d.talk;
-    let phase = talk.phase;
-    match phase {
-        Phase::Idle => d,
-        Phase::Silent => d,
-        Phase::Slave => heard(d),
-        Phase::High => heard(d),
-        Phase::Low => heard(d),
-        Phase::Data => heard(d),
-        Phase::Register => heard(d),
+    match d.talk.phase {
+        Phase::Idle | Phase::Silent => d,
+        Phase::Slave | Phase::High | Phase::Low | Phase::Data | Phase::Register => heard(d),
         Phase::Send => send_array(kind, array, b, d),
         Phase::SendRegister => send_register(d),
     }

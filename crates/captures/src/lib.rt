@@ -18,10 +18,6 @@ pub fn capture(
     ensures { Captures part select stored elapsed.now levels.now array.old answers.old result array.new answers.new }
 {
     let powered = twin::power_up(part, select, stored);
-    let reply = powered.reply;
-    let Reply::Accepted(_) = reply else {
-        return reply;
-    };
-    let replayed = twin::replay(powered.state, elapsed, levels, array, answers);
-    replayed.reply
+    powered.reply?;
+    twin::replay(powered.state, elapsed, levels, array, answers).reply
 }

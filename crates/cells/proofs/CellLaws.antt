@@ -1,13 +1,14 @@
 -- Laws of the cells and of blank bytes that several proofs cite. Assumes nothing.
 use Prim.Native.Nat.{ℕ, zero, suc, ◌<◌, ◌≤◌}
-use mathlib.Core.Bool.{Bool, true, false, ◌&&◌, and_assoc, and-true}
+use mathlib.Core.Bool.{Bool, true, ◌&&◌, and_assoc, and-true}
 use mathlib.Core.List.{List, [], ◌∷◌, ◌++◌, append_assoc, append-nil}
 use mathlib.Core.Path.{◌≡◌, refl, ap, sym, ◌∙◌}
 use native.Mathlib.Omega.{arith}
+use Rattle.std.specs.List.{fold}
 use lib.Dec.{eqb, ltb}
 use lib.ListN.{length, get_or, take, drop, set, replicate, take-append-drop, drop_of_length-le}
 use lib.Seq.{drop-cons, take-suc-set, drop-set-lt, take_all}
-use borrow.Author.Tests.{eqb-true, lt-ltb, ltb-true}
+use borrow.Author.Tests.{eqb-true}
 use Rattle.cells.specs.Cells.{not_given, blank_byte, fresh_of, give_of, byte_by, settled_of, blank_of}
 use Rattle.ground.proofs.Tests.{and_split}
 
@@ -89,17 +90,6 @@ pub give-done : (cs bs whole : List ℕ) (i : ℕ) → length bs ≤ i
 give-done cs bs whole i h e =
     sym (take-append-drop i cs) ∙ (rw (drop_of_length-le bs h, give-nil (drop i cs)) at e)
 
--- A cell below FFh is given; one that is not holds FFh or is not given.
-pub byte_low : (c : ℕ) → c < blank_byte → c ≡ byte_by (ltb c not_given) c
-byte_low c h = rw (lt-ltb c not_given (omega arith))
-
-pub byte_high : (c : ℕ) → blank_byte ≤ c → blank_byte ≡ byte_by (ltb c not_given) c
-byte_high c h = go (ltb c not_given) refl
-  where
-    go : (b : Bool) → ltb c not_given ≡ b → blank_byte ≡ byte_by b c
-    go true e = omega (arith, ltb-true c not_given e)
-    go false e = refl
-
 -- One turn of the settling: the byte of the cell at an index is stored, and what is left settles behind it.
 pub settle-turn : (cs array : List ℕ) (i v : ℕ) → i < length cs → i < length array
     → v ≡ byte_by (ltb (get_or cs i 0) not_given) (get_or cs i 0)
@@ -117,3 +107,11 @@ blank-same [] e = refl
 blank-same (b ∷ bs) e =
     let t = and_split (eqb b blank_byte) (blank_of bs) e in
     rw (eqb-true b blank_byte t.0) (ap (λ (l : List ℕ). blank_byte ∷ l) (blank-same bs t.1))
+
+-- The test of each byte in turn is the test of all.
+fold-blank : (bs : List ℕ) (all : Bool) → fold (λ a b. a && eqb b blank_byte) all bs ≡ (all && blank_of bs)
+fold-blank [] all = sym (and-true all)
+fold-blank (b ∷ bs) all = fold-blank bs (all && eqb b blank_byte) ∙ and_assoc all (eqb b blank_byte) (blank_of bs)
+
+pub blank_found : (r : Bool) (bs : List ℕ) → r ≡ fold (λ a b. a && eqb b blank_byte) true bs → r ≡ blank_of bs
+blank_found r bs e = e ∙ fold-blank bs true

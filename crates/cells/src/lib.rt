@@ -5,6 +5,7 @@ ghost use Rattle.std.specs.Prelude.{◌≡◌, ◌≤◌, length, ltb};
 ghost use Rattle.cells.specs.Cells.{byte_by, settled_of, blank_of};
 ghost use Rattle.cells.specs.Promises.{GivesTo};
 
+// A number beyond the bytes and not an Option: 16,384 cells are tested and settled several at a time, each in two bytes.
 pub const NOT_GIVEN: u16 = 256;
 
 // What a byte holds that no file gives.
@@ -16,29 +17,18 @@ pub fn give(cells: &mut [u16], bytes: &[u8]) -> bool
     ensures { GivesTo cells.old bytes.now result cells.new }
 {
     let mut fresh = true;
-    let mut i = 0;
-    while i < bytes.len() {
-        fresh = fresh & (cells[i] == NOT_GIVEN);
-        cells[i] = wide(bytes[i]);
-        i += 1;
+    for (i, &byte) in bytes.iter().enumerate() {
+        fresh &= cells[i] == NOT_GIVEN;
+        cells[i] = u16::from(byte);
     }
     fresh
-}
-
-fn wide(byte: u8) -> u16
-    ensures { result ≡ byte }
-{
-    byte as u16
 }
 
 // The byte of a cell: `BLANK` where it is not given, and that is the largest byte, so that one test does.
 fn byte_of(cell: u16) -> u8
     ensures { result ≡ byte_by (ltb cell 256) cell }
 {
-    if cell < wide(BLANK) {
-        return cell as u8;
-    }
-    BLANK
+    cell.min(u16::from(BLANK)) as u8
 }
 
 // Puts the bytes of the cells into an array of their number.
@@ -46,10 +36,8 @@ pub fn settle(cells: &[u16], array: &mut [u8])
     requires { length array.old ≡ length cells.now }
     ensures { array.new ≡ settled_of cells.now }
 {
-    let mut i = 0;
-    while i < array.len() {
-        array[i] = byte_of(cells[i]);
-        i += 1;
+    for (i, &cell) in cells.iter().enumerate() {
+        array[i] = byte_of(cell);
     }
 }
 
@@ -57,11 +45,5 @@ pub fn settle(cells: &[u16], array: &mut [u8])
 pub fn blank(bytes: &[u8]) -> bool
     ensures { result ≡ blank_of bytes.now }
 {
-    let mut all = true;
-    let mut i = 0;
-    while i < bytes.len() {
-        all = all & (bytes[i] == BLANK);
-        i += 1;
-    }
-    all
+    bytes.iter().fold(true, |all, &byte| all & (byte == BLANK))
 }

@@ -14,50 +14,40 @@ use sections::{Place, Stage, Step};
 use wires::{times, values};
 
 // Outside every section, among dumped values, or in a comment.
-#[derive(Clone, Copy)]
+#[derive(Clone, Copy, Debug, PartialEq, Eq)]
 pub enum Mode {
     Between,
     Dumped,
     Skipped,
 }
 
-// What a token says.
-#[derive(Clone, Copy)]
+// What a token says; a malformed one says nothing.
+#[derive(Clone, Copy, Debug, PartialEq, Eq)]
 pub enum Change {
     Time(u64),
     Value { character: u8, marks: u8 },
     Moves(Mode),
-    Breaks,
 }
 
 // A time line.
-fn time(digits: &[u8]) -> Change
+fn time(digits: &[u8]) -> Option<Change>
     ensures { change_meant result ≡ time_says (time_of digits.now) }
 {
-    let time = times::time_of(digits);
-    if time < times::NO_TIME {
-        return Change::Time(time);
-    }
-    Change::Breaks
+    let time = times::time_of(digits)?;
+    Some(Change::Time(u64::from(time)))
 }
 
 // A value for the wires of a code.
-#[tactic(auto, using(crate::proofs::ChangeLaws::valuing), unfolding(crate::specs::Parts::change_meant))]
-fn value(dump: &[u8], table: &[u8], begun: bool, word: &[u8]) -> Change
+fn value(dump: &[u8], table: &[u8], begun: bool, word: &[u8]) -> Option<Change>
     requires tabled { Tabled (vars_of dump.now) table.now }
     requires word_nonzero { 0 < length word.now }
     ensures { change_meant result ≡ value_says begun (marks_of (vars_of dump.now) (drop 1 word.now)) (get_or word.now 0 0) }
 {
     let marks = search::marks_of(dump, table, &word[1..]);
-    if begun {
-        if marks > 0 {
-            return Change::Value {
-                character: word[0],
-                marks,
-            };
-        }
-    }
-    Change::Breaks
+    (begun && marks > 0).then_some(Change::Value {
+        character: word[0],
+        marks,
+    })
 }
 
 // The mode of a place; no further place is met behind the definitions.
@@ -65,58 +55,35 @@ fn mode_of(place: Place) -> Mode
     ensures { result ≡ mode_of place }
 {
     match place {
-        Place::Between => Mode::Between,
         Place::Skipped => Mode::Skipped,
-        Place::ScaleNumber => Mode::Between,
-        Place::ScaleUnit => Mode::Between,
-        Place::ScopeKind => Mode::Between,
-        Place::ScopeName => Mode::Between,
-        Place::VarKind => Mode::Between,
-        Place::VarWidth => Mode::Between,
-        Place::VarCode => Mode::Between,
-        Place::VarName => Mode::Between,
-        Place::Close => Mode::Between,
         Place::Values => Mode::Dumped,
-        Place::Wrong => Mode::Between,
+        _ => Mode::Between,
     }
 }
 
 // A section's token behind the definitions.
-fn moved(step: Step) -> Change
+fn moved(step: Option<Step>) -> Option<Change>
     ensures { result ≡ moved_by step }
 {
     match step {
-        Step::Moves { stage: _, place } => Change::Moves(mode_of(place)),
-        Step::Codes => Change::Breaks,
-        Step::Names => Change::Breaks,
-        Step::Defines => Change::Breaks,
-        Step::Breaks => Change::Breaks,
+        Some(Step::Moves { place, .. }) => Some(Change::Moves(mode_of(place))),
+        _ => None,
     }
 }
 
 // What a token says, by the mode and whether a time line has come.
-pub fn change_of(dump: &[u8], table: &[u8], mode: Mode, begun: bool, word: &[u8]) -> Change
+pub fn change_of(dump: &[u8], table: &[u8], mode: Mode, begun: bool, word: &[u8]) -> Option<Change>
     requires tabled { Tabled (vars_of dump.now) table.now }
     requires word_nonzero { 0 < length word.now }
     ensures { change_meant result ≡ says_of (body_at dump.now (place_of mode) begun) word.now }
 {
     let first = word[0];
     match mode {
-        Mode::Between => {
-            if first == times::HASH {
-                return time(&word[1..]);
-            }
-            if values::is_value(first) {
-                return value(dump, table, begun, word);
-            }
-            moved(sections::open(Stage::Body, word))
-        }
-        Mode::Dumped => {
-            if values::is_value(first) {
-                return value(dump, table, begun, word);
-            }
-            moved(sections::hear(Stage::Body, Place::Values, word))
-        }
+        Mode::Between if first == times::HASH => time(&word[1..]),
+        Mode::Between if values::is_value(first) => value(dump, table, begun, word),
+        Mode::Between => moved(sections::open(Stage::Body, word)),
+        Mode::Dumped if values::is_value(first) => value(dump, table, begun, word),
+        Mode::Dumped => moved(sections::hear(Stage::Body, Place::Values, word)),
         Mode::Skipped => moved(sections::hear(Stage::Body, Place::Skipped, word)),
     }
 }

@@ -7,7 +7,7 @@ use Prim.Native.Nat.{ℕ}
 use Rattle.ground.specs.Numbers.{x4323, x4283}
 use Rattle.ground.specs.Kind.{kind_of}
 use Rattle.ground.specs.Verdict.{meant}
-use Rattle.ground.specs.declared.Reply.TheVariants.{Accepted}
+use Rattle.std.specs.Prelude.{Ok}
 use Rattle.refusals.specs.Refusals.{power_of}
 use Rattle.power.specs.Power.{powered_up}
 use Rattle.power.specs.declared.Replayed.{Replayed}
@@ -41,7 +41,7 @@ left-load = power-load x4323 0
 left-reachable : HandedOut → Occurs → Reachable left
 unfolding power_of kind_of meant
 left-reachable handed o =
-    (handed.power x4323 0 0 0 left.array (record { reply = Accepted 0; state = left.state })
+    (handed.power x4323 0 0 0 left.array (record { reply = Ok 0; state = left.state })
     (record { reply = refl; state = refl }) refl o.size).1
 
 -- Two replays of a capture that is taken, of one state over two arrays.

@@ -4,12 +4,12 @@ use mathlib.Core.List.{List, [], ◌∷◌, ◌++◌}
 use mathlib.Core.Path.{◌≡◌, refl, sym}
 use native.Mathlib.Omega.{arith}
 use lib.ListN.{length, drop}
+use Rattle.std.specs.Prelude.{Err, None}
 use Rattle.ground.specs.Kind.{kind_of}
 use Rattle.ground.specs.Numbers.{x4323, x4283}
 use Rattle.ground.specs.Size.{size_meant}
 use Rattle.ground.specs.Verdict.{accepted, refused, meant}
-use Rattle.ground.specs.declared.Reply.TheVariants.{Refused}
-use Rattle.ground.specs.declared.kinds.Size.TheVariants.{Unknown}
+use Rattle.ground.specs.declared.Reason.TheVariants.{PartUnknown, TimeTooLong, EndMissing, RoomTooSmall}
 use Rattle.refusals.specs.Refusals.{power_of, judged_of, capture_of}
 use Rattle.digits.specs.Digits.{glyph_of}
 use Rattle.forms.specs.Reading.{bad, reading_of}
@@ -21,7 +21,7 @@ use Rattle.texts.specs.Refusal.{refusal_line}
 use Rattle.tidying.specs.Shown.{text_gives, shown_of}
 use Rattle.codes.specs.Codes.{codes_of}
 use Rattle.captures.specs.Once.{capture_verdict}
-use Rattle.transfers.specs.declared.Listed.{Listed}
+use Rattle.transfers.specs.Promises.{Listed}
 use Rattle.power.specs.Power.{powered_up}
 use Rattle.power.specs.Promises.{ReadsRegister}
 use Rattle.power.specs.declared.Replayed.{Replayed}
@@ -151,22 +151,22 @@ unfolding meant size_meant kind_of
 one_from o =
     record {
       power-up = λ r x.
-          o.power-up 4324 0 0 r (record { reply = Refused 1 0; state = fresh }) x
+          o.power-up 4324 0 0 r (record { reply = Err (record { reason = PartUnknown; place = 0 }); state = fresh }) x
           (record { reply = sym no_part; state = rw no_part });
-      size = λ r x. o.size 4324 r Unknown x (record { said = refl });
+      size = λ r x. o.size 4324 r None x (record { said = refl });
       replay = λ r array' row' x.
           let some : Replayed × List ℕ × List ℕ = (r, array', row') in
-          o.replay fresh (1 ∷ 100001 ∷ []) (0 ∷ 0 ∷ []) ones rows some (record { reply = Refused 9 1; state = fresh }, ones, rows) x
+          o.replay fresh (1 ∷ 100001 ∷ []) (0 ∷ 0 ∷ []) ones rows some (record { reply = Err (record { reason = TimeTooLong; place = 1 }); state = fresh }, ones, rows) x
           (record { reply = sym too_long; state = rw too_long; kept = rw too_long; said = rw too_long });
       list = λ r array' row' x.
           let some : Listed × List ℕ × List ℕ = (r, array', row') in
-          o.list fresh (1 ∷ 100001 ∷ []) (0 ∷ 0 ∷ []) ones rows some (record { reply = Refused 9 1; state = fresh }, ones, rows) x
+          o.list fresh (1 ∷ 100001 ∷ []) (0 ∷ 0 ∷ []) ones rows some (record { reply = Err (record { reason = TimeTooLong; place = 1 }); state = fresh }, ones, rows) x
           (record { reply = rw too-long-listed; state = rw too-long-listed; kept = rw too-long-listed; said = rw too-long-listed });
       register = λ r x. o.register fresh r 0 x register-clear;
       read-image = λ r array' x.
-          o.read-image x4323 [] ones (r, array') (Refused 17 0, ones) x (record { reply = rw no_text; kept = rw no_text });
+          o.read-image x4323 [] ones (r, array') (Err (record { reason = EndMissing; place = 0 }), ones) x (record { reply = rw no_text; kept = rw no_text });
       write-image = λ r out' x.
-          o.write-image x4323 ones [] (r, out') (Refused 19 0, []) x (record { reply = sym no_room; said = rw no_room });
+          o.write-image x4323 ones [] (r, out') (Err (record { reason = RoomTooSmall; place = 0 }), []) x (record { reply = sym no_room; said = rw no_room });
       tidy = λ out r out' x.
           o.tidy x4323 [] out (r, out') (5, codes_of "17 0\n" ++ drop 5 out) x
           (starts_with (shown_of x4323 []) (codes_of "17 0\n") out no-text-shown);

@@ -1,22 +1,22 @@
 -- There is only one possible reply: for each public operation and every input, two outcomes that both keep what the
 -- operation promises are one and the same, in every part. It rests on the promises alone. No axiom is used.
+use Prim.Native.Nat.{ℕ}
 use mathlib.Core.Path.{◌≡◌, refl, sym}
+use Rattle.std.specs.Prelude.{Option, Some, None}
 use Rattle.ground.specs.Verdict.{meant}
 use Rattle.ground.proofs.Verdicts.{apart, meant-one}
 use Rattle.ground.specs.Size.{size_meant}
 use Rattle.power.specs.declared.Replayed.{Replayed}
-use Rattle.ground.specs.declared.kinds.Size.{Size}
-use Rattle.ground.specs.declared.kinds.Size.TheVariants.{Bytes, Unknown}
-use Rattle.transfers.specs.declared.Listed.{Listed}
+use Rattle.transfers.specs.Promises.{Listed}
 use Rattle.claims.specs.OneReply.{OneReply}
 
 -- Two sizes that mean the same are the same.
-pub size-one : (r q : Size) → size_meant r ≡ size_meant q → r ≡ q
+pub size-one : (r q : Option ℕ) → size_meant r ≡ size_meant q → r ≡ q
 unfolding size_meant
-size-one (Bytes n) (Bytes m) e = cc
-size-one (Bytes n) Unknown e = absurd (apart 1 0 n (sym e))
-size-one Unknown (Bytes n) e = absurd (apart 1 0 n e)
-size-one Unknown Unknown e = refl
+size-one (Some n) (Some m) e = cc
+size-one (Some n) None e = absurd (apart 1 0 n (sym e))
+size-one None (Some n) e = absurd (apart 1 0 n e)
+size-one None None e = refl
 
 -- Two pairs that are equal in both parts.
 pairs : {A B : Type 0} {x y : A × B} → x.0 ≡ y.0 → x.1 ≡ y.1 → x ≡ y

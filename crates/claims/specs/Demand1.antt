@@ -6,15 +6,14 @@
 -- is lent for reading only (times, levels, text) no operation can change.
 -- For a person from the line: give it anything. What it cannot use it turns away with a number that says why and a place that says where, and
 -- everything you lent comes back as you lent it, but for the row or the line that tells you this.
-use Rattle.std.specs.Prelude.{ℕ, List, [], ◌∷◌, ◌++◌, ◌≡◌, length, drop, false}
+use Rattle.std.specs.Prelude.{ℕ, List, [], ◌∷◌, ◌++◌, ◌≡◌, length, drop, false, Result, Option}
 use Rattle.ground.specs.Kind.{known}
 use Rattle.ground.specs.Numbers.{x4323}
 use Rattle.part.specs.declared.state.State.{State}
 use Rattle.ground.specs.Verdict.{accepted, refused, meant}
 use Rattle.refusals.specs.Refusals.{power_of, capture_of, judged_of}
-use Rattle.ground.specs.declared.Reply.{Reply}
+use Rattle.ground.specs.declared.Refusal.{Refusal}
 use Rattle.power.specs.declared.Replayed.{Replayed}
-use Rattle.ground.specs.declared.kinds.Size.{Size}
 use Rattle.ground.specs.Size.{size_meant, SizesPart}
 use Rattle.power.specs.Power.{powered_up}
 use Rattle.power.specs.Promises.{PowersUp}
@@ -27,7 +26,7 @@ use Rattle.texts.specs.Laying.{Starts}
 use Rattle.tidying.specs.Shown.{text_gives, shown_of}
 use Rattle.telling.specs.Told.{ReadsThrough, WritesThrough}
 use Rattle.door.specs.Promises.{ReplaysOnce}
-use Rattle.transfers.specs.declared.Listed.{Listed}
+use Rattle.transfers.specs.Promises.{Listed}
 use Rattle.transfers.specs.Promises.{Lists}
 
 -- What each operation says and leaves where it refuses: k is the paper's number and p its place (Refusal numbers, last lines).
@@ -38,14 +37,14 @@ pub record Demand1 : Type 0 where
   pub replay : (s : State) (es ls array row : List ℕ) (r : Replayed) (array' row' : List ℕ) (k p : ℕ)
       → Replays s es ls array row r array' row' → judged_of s es ls array row ≡ refused k p
       → (meant r.reply ≡ refused k p) × (r.state ≡ s) × (array' ≡ array) × (row' ≡ row)
-  pub read-image : (part : ℕ) (text array : List ℕ) (r : Reply) (array' : List ℕ) (k p : ℕ)
+  pub read-image : (part : ℕ) (text array : List ℕ) (r : Result ℕ Refusal) (array' : List ℕ) (k p : ℕ)
       → ReadsImage intel part text array r array' → image_of intel part text array ≡ bad k p → (meant r ≡ refused k p) × (array' ≡ array)
-  pub write-image : (part : ℕ) (array out : List ℕ) (r : Reply) (out' : List ℕ) (k p : ℕ)
+  pub write-image : (part : ℕ) (array out : List ℕ) (r : Result ℕ Refusal) (out' : List ℕ) (k p : ℕ)
       → WritesImage intel part array out r out' → write_verdict intel part array out ≡ refused k p → (meant r ≡ refused k p) × (out' ≡ out)
   pub tidy : (part : ℕ) (text out : List ℕ) (r : ℕ) (out' : List ℕ) (k p : ℕ)
       → Starts (shown_of part text) out r out' → text_gives part text ≡ bad k p
       → (r ≡ length (refusal_line k p)) × (out' ≡ refusal_line k p ++ drop r out)
-  pub size : (part : ℕ) (r : Size) → SizesPart part r → known part ≡ false → size_meant r ≡ refused 1 0
+  pub size : (part : ℕ) (r : Option ℕ) → SizesPart part r → known part ≡ false → size_meant r ≡ refused 1 0
   pub door-power-up : (part select stored : ℕ) (es ls array row numbers : List ℕ) (r : ℕ) (array' row' numbers' : List ℕ) (k p : ℕ)
       → ReplaysOnce part select stored es ls array row numbers r array' row' numbers' → length numbers ≡ 2
       → power_of part select stored ≡ refused k p

@@ -3,9 +3,9 @@
 -- in every lent row, array and buffer; through the door in the answer and the reply row too. That it is the right one, Demand1 and Demand2 say. The buffer that
 -- the program lends has room for the longest text, by its type.
 -- For a person from the line: ask the same thing twice and you get the same answer; nothing is left open.
-use Rattle.std.specs.Prelude.{ℕ, List, ◌≡◌}
+use Rattle.std.specs.Prelude.{ℕ, List, ◌≡◌, Result}
 use Rattle.part.specs.declared.state.State.{State}
-use Rattle.ground.specs.declared.Reply.{Reply}
+use Rattle.ground.specs.declared.Refusal.{Refusal}
 use Rattle.power.specs.declared.Replayed.{Replayed}
 use Rattle.ground.specs.Size.{SizesPart}
 use Rattle.power.specs.Promises.{PowersUp, ReadsRegister}
@@ -16,7 +16,7 @@ use Rattle.texts.specs.Laying.{Starts}
 use Rattle.tidying.specs.Shown.{shown_of}
 use Rattle.telling.specs.Told.{ReadsThrough, WritesThrough}
 use Rattle.door.specs.Promises.{ReplaysOnce}
-use Rattle.transfers.specs.declared.Listed.{Listed}
+use Rattle.transfers.specs.Promises.{Listed}
 use Rattle.transfers.specs.Promises.{Lists}
 
 -- Two outcomes that both keep a promise are one (Leaving no slack, only one possible reply).
@@ -31,8 +31,8 @@ pub record OneReply : Type 0 where
   pub register : (s : State) → OnlyOne (ReadsRegister s)
   pub size : (part : ℕ) → OnlyOne (SizesPart part)
   pub read-image : (part : ℕ) (text array : List ℕ)
-      → OnlyOne (λ ((r, array') : Reply × List ℕ). ReadsImage intel part text array r array')
-  pub write-image : (part : ℕ) (array out : List ℕ) → OnlyOne (λ ((r, out') : Reply × List ℕ). WritesImage intel part array out r out')
+      → OnlyOne (λ ((r, array') : Result ℕ Refusal × List ℕ). ReadsImage intel part text array r array')
+  pub write-image : (part : ℕ) (array out : List ℕ) → OnlyOne (λ ((r, out') : Result ℕ Refusal × List ℕ). WritesImage intel part array out r out')
   pub tidy : (part : ℕ) (text out : List ℕ) → OnlyOne (λ ((r, out') : ℕ × List ℕ). Starts (shown_of part text) out r out')
   pub door-replay : (part select stored : ℕ) (es ls array row numbers : List ℕ)
       → OnlyOne (λ ((r, array', row', numbers') : ℕ × List ℕ × List ℕ × List ℕ). ReplaysOnce part select stored es ls array row numbers r array' row' numbers')

@@ -2,9 +2,9 @@
 -- operation promises: no promise asks for what cannot be. With OneReply there is exactly one. A lent row, array or buffer that comes back
 -- is as long as it was, by its type; that is not said here.
 -- For a person from the line: whatever you ask, there is an answer.
-use Rattle.std.specs.Prelude.{ℕ, List}
+use Rattle.std.specs.Prelude.{ℕ, List, Result}
 use Rattle.part.specs.declared.state.State.{State}
-use Rattle.ground.specs.declared.Reply.{Reply}
+use Rattle.ground.specs.declared.Refusal.{Refusal}
 use Rattle.power.specs.declared.Replayed.{Replayed}
 use Rattle.ground.specs.Size.{SizesPart}
 use Rattle.power.specs.Promises.{PowersUp, ReadsRegister}
@@ -17,7 +17,7 @@ use Rattle.telling.specs.Told.{ReadsThrough, WritesThrough}
 use Rattle.door.specs.Promises.{ReplaysOnce, ReplaysDump}
 use Rattle.judging.specs.Promises.{Judges}
 use Rattle.disagreements.specs.Promises.{Reports}
-use Rattle.transfers.specs.declared.Listed.{Listed}
+use Rattle.transfers.specs.Promises.{Listed}
 use Rattle.transfers.specs.Promises.{Lists}
 
 -- An outcome that keeps a promise (Leaving no slack, only one possible reply).
@@ -32,8 +32,8 @@ pub record SomeReply : Type 0 where
   pub register : (s : State) → Some (ReadsRegister s)
   pub size : (part : ℕ) → Some (SizesPart part)
   pub read-image : (part : ℕ) (text array : List ℕ)
-      → Some (λ ((r, array') : Reply × List ℕ). ReadsImage intel part text array r array')
-  pub write-image : (part : ℕ) (array out : List ℕ) → Some (λ ((r, out') : Reply × List ℕ). WritesImage intel part array out r out')
+      → Some (λ ((r, array') : Result ℕ Refusal × List ℕ). ReadsImage intel part text array r array')
+  pub write-image : (part : ℕ) (array out : List ℕ) → Some (λ ((r, out') : Result ℕ Refusal × List ℕ). WritesImage intel part array out r out')
   pub tidy : (part : ℕ) (text out : List ℕ) → Some (λ ((r, out') : ℕ × List ℕ). Starts (shown_of part text) out r out')
   pub door-replay : (part select stored : ℕ) (es ls array row numbers : List ℕ)
       → Some (λ ((r, array', row', numbers') : ℕ × List ℕ × List ℕ × List ℕ). ReplaysOnce part select stored es ls array row numbers r array' row' numbers')
@@ -45,6 +45,6 @@ pub record SomeReply : Type 0 where
       → Some (λ ((r, array', row') : Listed × List ℕ × List ℕ). Lists s es ls array row r array' row')
   pub judge : (dump : List ℕ) → Some (Judges dump)
   pub report : (part select stored : ℕ) (dump array row : List ℕ)
-      → Some (λ ((r, array', row') : Reply × List ℕ × List ℕ). Reports part select stored dump array row r array' row')
+      → Some (λ ((r, array', row') : Result ℕ Refusal × List ℕ × List ℕ). Reports part select stored dump array row r array' row')
   pub door-replay-dump : (part select stored : ℕ) (dump array row numbers : List ℕ)
       → Some (λ ((r, array', row', numbers') : ℕ × List ℕ × List ℕ × List ℕ). ReplaysDump part select stored dump array row numbers r array' row' numbers')

@@ -4,7 +4,7 @@ use mathlib.Core.Bool.{Bool, true, false, true≢false}
 use mathlib.Core.Path.{◌≡◌, refl, sym, ap, ◌∙◌}
 use native.Mathlib.Omega.{arith}
 use lib.Dec.{ltb, eqb}
-use borrow.Author.Tests.{lt-ltb, le-ltb, ne_eqb, ltb-true, ltb-false, eqb-true, eqb-false}
+use borrow.Author.Tests.{lt-ltb, le-ltb, ltb-true, ltb-false, eqb-true, eqb-false}
 use Rattle.part.specs.declared.state.Frame.{Frame}
 use Rattle.part.specs.declared.state.Wire.{Wire}
 use Rattle.wire.specs.Sign.{pushed, clean_frame, fall_sign_by, fall_sign, fall_frame, sign_by, frame_by, sign_of, wire_of}
@@ -59,34 +59,6 @@ module _ (f : Frame) where
 
   pub low-seen : (scl sda c d : Bool) → scl ≡ false → c ≡ false → Sees (wire_from scl sda f) c d Quiet (wire_from c d f)
   low-seen scl sda c d p q = rw (p, q) (sees-by false sda false d false false sda d refl refl refl refl)
-
--- What the four levels are to the loops.
-pub told-by : (f : Frame) (scl sda c d c' d' x y a b : Bool) → c ≡ c' → d ≡ d' → scl ≡ x → c ≡ y → sda ≡ a → d ≡ b
-    → turn_by (sign_by x y a b f) ≡ turn_by (sign_of (wire_from scl sda f) c' d')
-told-by f scl sda c d c' d' x y a b p q r t u v =
-    rw (← p, ← q) (ap turn_by (sym (sees-by f scl sda c d x y a b r t u v).shown))
-
--- The same of SCL and the SDA line as they were read.
-pub read-so : (w : Wire) (c d c' d' : Bool) (t : Turn) → c ≡ c' → d ≡ d' → turn_by (sign_of w c' d') ≡ t → turn_by (sign_of w c d) ≡ t
-read-so w c d c' d' t p q h = rw (p, q) h
-
--- And a fall.
-module _ (held bit : Bool) (bits shift : ℕ) where
-  pub none_told : held ≡ false → Turn.Plain ≡ turn_by (fall_sign (frame_from held bit bits shift))
-  unfolding fall_sign
-  none_told h = rw h
-
-  pub bit-told : held ≡ true → bits < 7 → Turn.Plain ≡ turn_by (fall_sign (frame_from held bit bits shift))
-  unfolding fall_sign
-  bit-told h g = rw (h, lt-ltb bits 7 g)
-
-  pub eighth-told : held ≡ true → bits ≡ 7 → Turn.Eighth ≡ turn_by (fall_sign (frame_from held bit bits shift))
-  unfolding fall_sign
-  eighth-told h g = rw (h, g)
-
-  pub ninth-told : held ≡ true → 7 ≤ bits → (bits ≡ 7 → ⊥) → Turn.Ninth ≡ turn_by (fall_sign (frame_from held bit bits shift))
-  unfolding fall_sign
-  ninth-told h g n = rw (h, le-ltb bits 7 g, ne_eqb bits 7 n)
 
 -- A fall by the frame.
 few : (h s e : Bool) (f : Frame) → h ≡ true → turn_by (fall_sign_by h s e f) ≡ Turn.Plain → s ≡ true

@@ -4,6 +4,7 @@ use mathlib.Core.Bool.{Bool, true, false}
 use mathlib.Core.List.{List}
 use mathlib.Core.Path.{◌≡◌, refl, sym, ap, subst, ◌∙◌}
 use native.Mathlib.Omega.{arith}
+use native.Mathlib.Nat.{add_assoc}
 use native.Mathlib.Numerals.{add-one}
 use lib.ListN.{length, get_or, length-set}
 use Rattle.ground.specs.Cases.{or_zero}
@@ -33,14 +34,11 @@ use Rattle.clocks.proofs.Turning.{heard}
 pub told-long : {row : List ℕ} {i : ℕ} {own : Bool} {base r : ℕ} {row' : List ℕ} → Tells row i own base r row' → length row' ≡ length row
 told-long {row} {i} {own} {base} f = ap length f.said ∙ length-set row i (or_zero own 1 + base)
 
-pub sum-of-three : (a b c : ℕ) → a + b + c ≡ a + (b + c)
-sum-of-three a b c = omega arith
-
 -- The answer while no timer ends.
 pub answer_at : (s : State) (t : Times) (d : Device) (m : Load) (c : Clocks) → (0 < t.write → t.all - c.room < t.write)
     → answer_of (state_at s t d m c) ≡ or_zero c.own 1 + base_of (kind_of s.chip.part).high false t.write
 unfolding answer_of
-answer_at s t d m c h = rw (still-writes t.write (t.all - c.room) h) (sum-of-three (or_zero c.own 1) _ _)
+answer_at s t d m c h = rw (still-writes t.write (t.all - c.room) h) (add_assoc (or_zero c.own 1) _ _)
 
 -- What holds where the loops start.
 pub stands-first : (s : State) (es ls array row : List ℕ) (from base : ℕ) (t : Times) → length es ≡ length ls → length row ≡ length ls → from ≤ length ls

@@ -5,26 +5,11 @@
 pub mod rooms;
 pub mod turns;
 
-ghost use Rattle.std.specs.Prelude.{◌≡◌};
-ghost use Rattle.clocks.specs.Goes.{moved_of};
-
-use part::state::{Device, Load, State, Timers, Wire};
+use part::state::State;
 
 // A state, and the sample that comes next.
 #[derive(Clone, Copy)]
 pub struct Stand {
     pub state: State,
     pub at: usize,
-}
-
-// What a loop may have changed, put into the state.
-pub fn moved(s: State, timers: Timers, wire: Wire, device: Device, load: Load, at: usize) -> Stand
-    ensures { result ≡ record { state = moved_of s timers wire device load; at = at } }
-{
-    let mut next = s;
-    next.timers = timers;
-    next.wire = wire;
-    next.device = device;
-    next.load = load;
-    Stand { state: next, at }
 }

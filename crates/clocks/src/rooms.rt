@@ -19,30 +19,16 @@ pub struct Times {
     pub running: bool,
 }
 
-fn smaller(a: u32, b: u32) -> u32
-    ensures one { result ≤ a }
-    ensures other { result ≤ b }
-{
-    if a < b {
-        return a;
-    }
-    b
-}
-
 // A time in which no timer ends.
 fn room_of(write: u32, running: bool, left: u32) -> u32
     ensures { Room write running left result }
 {
-    if running {
-        if 0 < write {
-            return smaller(left, write);
-        }
-        return left;
+    match (running, 0 < write) {
+        (true, true) => left.min(write),
+        (true, false) => left,
+        (false, true) => write,
+        (false, false) => LONG,
     }
-    if 0 < write {
-        return write;
-    }
-    LONG
 }
 
 pub fn times_of(write: u32, dog: Watchdog) -> Times
@@ -60,8 +46,8 @@ pub fn times_of(write: u32, dog: Watchdog) -> Times
 pub fn started(t: Times, room: u32, stored: u8) -> Times
     ensures { Begins (t.write - (t.all - room)) (loaded_of stored) result }
 {
-    let spent = timers::less(t.all, room);
-    times_of(timers::less(t.write, spent), timers::loaded(stored))
+    let spent = t.all.saturating_sub(room);
+    times_of(t.write.saturating_sub(spent), timers::loaded(stored))
 }
 
 // What is left of the watchdog's time.
@@ -69,18 +55,19 @@ fn left_of(running: bool, left: u32, spent: u32) -> u32
     ensures { result ≡ left_by running left spent }
 {
     if running {
-        return timers::less(left, spent);
+        left.saturating_sub(spent)
+    } else {
+        left
     }
-    left
 }
 
 // The timers with a room left.
 pub fn timers_at(hold: u32, t: Times, room: u32) -> Timers
     ensures { result ≡ timers_at hold t room }
 {
-    let spent = timers::less(t.all, room);
+    let spent = t.all.saturating_sub(room);
     Timers {
-        write: timers::less(t.write, spent),
+        write: t.write.saturating_sub(spent),
         hold,
         reset: false,
         low: false,
@@ -106,6 +93,6 @@ pub fn tell(row: &mut [u8], i: usize, own: bool, base: u8) -> usize
     requires base_bound { base ≤ 6 }
     ensures { Tells row.old i own base result row.new }
 {
-    row[i] = cases::worth(own, 1) + base;
+    row[i] = u8::from(own) + base;
     i + 1
 }

@@ -66,20 +66,22 @@ pub fn clocks_of(wire: Wire, talk: Talk, room: u32) -> Clocks
     }
 }
 
-pub fn wire_of(c: Clocks) -> Wire
-    ensures { result ≡ wire_at c }
-{
-    Wire {
-        lines: Lines {
-            scl: c.scl,
-            sda: c.sda,
-        },
-        frame: Frame {
-            held: c.held,
-            bit: c.bit,
-            bits: c.bits,
-            shift: c.shift,
-        },
+impl From<Clocks> for Wire {
+    ghost from_gives = { λ c wire. wire ≡ wire_at c };
+
+    fn from(c: Clocks) -> Wire {
+        Wire {
+            lines: Lines {
+                scl: c.scl,
+                sda: c.sda,
+            },
+            frame: Frame {
+                held: c.held,
+                bit: c.bit,
+                bits: c.bits,
+                shift: c.shift,
+            },
+        }
     }
 }
 
@@ -88,26 +90,10 @@ pub fn fallen(c: Clocks, talk: Talk, elapsed: u32, level: u8) -> Clocks
     requires { elapsed ≤ c.room }
     ensures { result ≡ fallen_at c talk elapsed level }
 {
-    let sda = answers::line(level, c.own);
-    let room = c.room - elapsed;
-    if c.bits == BEFORE_LAST {
-        return Clocks {
-            room,
-            scl: false,
-            sda,
-            held: false,
-            bit: false,
-            bits: BITS,
-            shift: wire::push(c.shift, c.bit),
-            high: talk.high,
-            out: talk.out,
-            own: talk.own,
-        };
-    }
-    Clocks {
-        room,
+    let fell = Clocks {
+        room: c.room - elapsed,
         scl: false,
-        sda,
+        sda: answers::line(level, c.own),
         held: false,
         bit: false,
         bits: 0,
@@ -115,7 +101,15 @@ pub fn fallen(c: Clocks, talk: Talk, elapsed: u32, level: u8) -> Clocks
         high: talk.high,
         out: talk.out,
         own: talk.own,
+    };
+    if c.bits == BEFORE_LAST {
+        return Clocks {
+            bits: BITS,
+            shift: wire::push(c.shift, c.bit),
+            ..fell
+        };
     }
+    fell
 }
 
 // The clocks after a start or a stop: nothing is said.
@@ -137,49 +131,41 @@ pub fn cut(sda: bool, room: u32) -> Clocks
 }
 
 // What a sample's lines say.
+#[tactic(auto, unfolding(wire::specs::Sign::sign_of, wire::specs::Sign::fall_sign))]
 fn told(now: Clocks, level: u8) -> Turn
     ensures { result ≡ turn_by (seen_at now level) }
 {
     let clock = answers::scl(level);
     let data = answers::line(level, now.own);
-    if now.scl {
-        if clock {
-            if now.sda {
-                if data {
-                    return Turn::Plain;
-                }
-                return Turn::Start;
-            }
-            if data {
-                return Turn::Stop;
-            }
-            return Turn::Plain;
-        }
-        if now.held {
+    match (now.scl, clock) {
+        (true, true) => match (now.sda, data) {
+            (true, false) => Turn::Start,
+            (false, true) => Turn::Stop,
+            _ => Turn::Plain,
+        },
+        (true, false) if now.held => {
             if now.bits < BEFORE_LAST {
-                return Turn::Plain;
+                Turn::Plain
+            } else if now.bits == BEFORE_LAST {
+                Turn::Eighth
+            } else {
+                Turn::Ninth
             }
-            if now.bits == BEFORE_LAST {
-                return Turn::Eighth;
-            }
-            return Turn::Ninth;
         }
-        return Turn::Plain;
+        _ => Turn::Plain,
     }
-    Turn::Plain
 }
 
 // What a sample is to the loops.
+#[tactic(auto, unfolding(crate::specs::Clocks::turn_of))]
 pub fn turn_of(now: Clocks, elapsed: u32, level: u8) -> Turn
     ensures { result ≡ turn_of now elapsed level }
 {
-    if elapsed < now.room {
-        if answers::vcc(level) {
-            return told(now, level);
-        }
-        return Turn::Other;
+    if elapsed < now.room && answers::vcc(level) {
+        told(now, level)
+    } else {
+        Turn::Other
     }
-    Turn::Other
 }
 
 // The clocks after a plain sample.
@@ -189,6 +175,8 @@ fn turned(now: Clocks, sends: bool, elapsed: u32, level: u8) -> Clocks
 {
     let clock = answers::scl(level);
     let data = answers::line(level, now.own);
+    // One copy, changed in place where the branches need it: struct update, or a match on both clocks, costs the loops more
+    // instructions a sample.
     let mut next = now;
     next.room = now.room - elapsed;
     next.scl = clock;
@@ -203,17 +191,14 @@ fn turned(now: Clocks, sends: bool, elapsed: u32, level: u8) -> Clocks
     }
     if now.scl {
         if now.held {
-            let shift = wire::push(now.shift, now.bit);
             next.held = false;
             next.bit = false;
             next.bits = now.bits + 1;
-            next.shift = shift;
+            next.shift = wire::push(now.shift, now.bit);
             if sends {
-                let out = bits::shifted(now.out);
-                let own = bits::top(out);
                 next.high = 0;
-                next.out = out;
-                next.own = own;
+                next.out = bits::shifted(now.out);
+                next.own = bits::top(next.out);
                 return next;
             }
             return next;
@@ -239,8 +224,8 @@ pub fn pass(
     ensures { Clocked sends base elapsed.now levels.now from first row.old result.at result.now row.new }
 {
     let mut now = first;
-    let mut i = from;
-    while i < levels.len() {
+    let mut at = from;
+    for i in from..levels.len() {
         let spent = elapsed[i];
         let level = levels[i];
         let turn = turn_of(now, spent, level);
@@ -248,7 +233,7 @@ pub fn pass(
             break;
         };
         now = turned(now, sends, spent, level);
-        i = rooms::tell(row, i, now.own, base);
+        at = rooms::tell(row, i, now.own, base);
     }
-    Ran { now, at: i }
+    Ran { now, at }
 }

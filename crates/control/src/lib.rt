@@ -1,8 +1,8 @@
 // The control register: how it reads, and what a register byte orders at a stop.
 #![tactic(auto)]
 
-ghost use Rattle.std.specs.Prelude.{◌≡◌, true, false};
-ghost use Rattle.control.specs.Register.{plain_of, reads_of, low_order, order_of, carried_out, takes_time};
+ghost use Rattle.std.specs.Prelude.{◌≡◌};
+ghost use Rattle.control.specs.Register.{plain_of, reads_of, order_of, carried_out, takes_time};
 
 use ground::cases;
 use part::state::Control;
@@ -29,74 +29,50 @@ fn plain(v: u8) -> u8
 pub fn reads(c: Control) -> u8
     ensures { result ≡ reads_of c }
 {
-    let stored = c.stored;
-    let rwel = c.rwel | (stored / 4 % 2 == 1);
-    let wel = c.wel | (stored / 2 % 2 == 1);
-    let high = cases::worth(rwel, 4);
-    let low = cases::worth(wel, 2);
-    plain(stored) + high + low
-}
-
-// 06h: RWEL is set only behind WEL.
-fn set_rwel(wel: bool) -> Order
-    ensures { result ≡ low_order false false true wel }
-{
-    if wel {
-        return Order::SetRwel;
-    }
-    Order::Nothing
+    let rwel = c.rwel | (c.stored / 4 % 2 == 1);
+    let wel = c.wel | (c.stored / 2 % 2 == 1);
+    plain(c.stored) + cases::worth(rwel, 4) + cases::worth(wel, 2)
 }
 
 // What the pending byte orders at a stop, with WP as the stop's sample has it.
+#[tactic(auto, unfolding(crate::specs::Register::order_of))]
 pub fn order_of(wp: bool, c: Control) -> Order
     ensures { result ≡ order_of wp c }
 {
-    let v = c.value;
-    if c.pending {
-        if c.rwel {
-            if v / 2 % 4 == 1 {
-                if wp & (c.stored / 128 % 2 == 1) {
-                    return Order::Nothing;
-                }
-                return Order::Take;
-            }
-            return Order::Nothing;
-        }
-        return match v {
-            0x02 => Order::SetWel,
-            0x00 => Order::ClearWel,
-            0x06 => set_rwel(c.wel),
+    if !c.pending {
+        return Order::Nothing;
+    }
+    if c.rwel {
+        let guarded = wp & (c.stored / 128 % 2 == 1);
+        return match c.value / 2 % 4 {
+            1 if !guarded => Order::Take,
             _ => Order::Nothing,
         };
     }
-    Order::Nothing
+    match c.value {
+        0x02 => Order::SetWel,
+        0x00 => Order::ClearWel,
+        // RWEL is set only behind WEL.
+        0x06 if c.wel => Order::SetRwel,
+        _ => Order::Nothing,
+    }
 }
 
 // The register after an order.
+#[tactic(auto, unfolding(crate::specs::Register::carried_out))]
 pub fn carry_out(order: Order, c: Control) -> Control
     ensures { result ≡ carried_out order c }
 {
-    let mut next = c;
     match order {
-        Order::SetWel => {
-            next.wel = true;
-            next
-        }
-        Order::ClearWel => {
-            next.wel = false;
-            next
-        }
-        Order::SetRwel => {
-            next.rwel = true;
-            next
-        }
-        Order::Take => {
-            let stored = plain(c.value);
-            next.stored = stored;
-            next.rwel = false;
-            next
-        }
-        Order::Nothing => next,
+        Order::SetWel => Control { wel: true, ..c },
+        Order::ClearWel => Control { wel: false, ..c },
+        Order::SetRwel => Control { rwel: true, ..c },
+        Order::Take => Control {
+            stored: plain(c.value),
+            rwel: false,
+            ..c
+        },
+        Order::Nothing => c,
     }
 }
 
@@ -104,11 +80,5 @@ pub fn carry_out(order: Order, c: Control) -> Control
 pub fn takes_time(order: Order) -> bool
     ensures { result ≡ takes_time order }
 {
-    match order {
-        Order::Take => true,
-        Order::SetWel => false,
-        Order::ClearWel => false,
-        Order::SetRwel => false,
-        Order::Nothing => false,
-    }
+    matches!(order, Order::Take)
 }

@@ -4,6 +4,7 @@ use mathlib.Core.Bool.{Bool, true, false}
 use mathlib.Core.List.{List}
 use mathlib.Core.Path.{◌≡◌, refl, sym, ap, ◌∙◌}
 use native.Mathlib.Numerals.{add-one}
+use native.Mathlib.Nat.{add_assoc}
 use lib.Dec.{ltb}
 use lib.ListN.{length, get_or}
 use Rattle.ground.specs.Cases.{or_zero}
@@ -26,7 +27,6 @@ use Rattle.clocks.specs.Goes.{Goes, moved_of}
 use Rattle.clocks.specs.Rooms.{base_of, Tells}
 use Rattle.dark.specs.Dark.{held_at, quiet_at, fallen_of, Dark, dark_at}
 use Rattle.clocks.proofs.Going.{goes_on}
-use Rattle.clocks.proofs.Standing.{sum-of-three}
 
 -- Low VCC is reset.
 resets : (s : State) (e l : ℕ) → vcc_of l ≡ false → (opens_of e l s).timers.reset ≡ true
@@ -77,7 +77,7 @@ module _ (s : State) (h : Dark s) where
   held-said : (write : ℕ) (lines : Lines) (d : Device) → d.talk.own ≡ true
       → answer_of (moved_of s (held_at write s.timers.watchdog) (quiet_at lines) d s.load) ≡ 1 + base_of (kind_of s.chip.part).high true write
   unfolding answer_of
-  held-said write lines d o = rw o (sum-of-three 1 (or_zero (pin_by (kind_of s.chip.part).high true) 2) (or_zero (ltb 0 write) 4))
+  held-said write lines d o = rw o (add_assoc 1 (or_zero (pin_by (kind_of s.chip.part).high true) 2) (or_zero (ltb 0 write) 4))
 
   released : s.device.talk.own ≡ true
   unfolding ended_of

@@ -9,7 +9,7 @@ ghost use Rattle.dark.specs.Dark.{Dark, Dims};
 use clocks::{Stand, rooms};
 use ground::kinds;
 use levels::answers;
-use part::state::{Lines, State};
+use part::state::{Lines, State, Timers, Wire};
 
 // What such a sample changes, after a first one: the write time and the lines.
 #[derive(Clone, Copy)]
@@ -28,23 +28,26 @@ fn go_on(high: bool, first: Dim, elapsed: &[u32], levels: &[u8], row: &mut [u8])
 {
     let mut write = first.write;
     let mut lines = first.lines;
-    let mut i = first.at;
-    while i < levels.len() {
+    for i in first.at..levels.len() {
         let level = levels[i];
         if answers::vcc(level) {
-            break;
+            return Dim {
+                write,
+                lines,
+                at: i,
+            };
         }
-        write = timers::less(write, elapsed[i]);
+        write = write.saturating_sub(elapsed[i]);
         lines = Lines {
             scl: answers::scl(level),
             sda: answers::sda(level),
         };
-        i = rooms::tell(row, i, true, rooms::base_of(high, true, write));
+        rooms::tell(row, i, true, rooms::base_of(high, true, write));
     }
     Dim {
         write,
         lines,
-        at: i,
+        at: levels.len(),
     }
 }
 
@@ -63,18 +66,23 @@ pub fn pass(
     requires dark { Dark s }
     ensures { Goes elapsed.now levels.now from (part_of s array.now) row.old result.at (part_of result.state array.now) row.new }
 {
-    let mut times = s.timers;
-    let mut wire = s.wire;
     let kind = kinds::kind_of(s.chip.part);
-    let before = wire.lines;
     let first = Dim {
-        write: times.write,
-        lines: before,
+        write: s.timers.write,
+        lines: s.wire.lines,
         at: from,
     };
     let dim = go_on(kind.high, first, elapsed, levels, row);
-    let lines = dim.lines;
-    times.write = dim.write;
-    wire.lines = lines;
-    clocks::moved(s, times, wire, s.device, s.load, dim.at)
+    let timers = Timers {
+        write: dim.write,
+        ..s.timers
+    };
+    let wire = Wire {
+        lines: dim.lines,
+        ..s.wire
+    };
+    Stand {
+        state: State { timers, wire, ..s },
+        at: dim.at,
+    }
 }

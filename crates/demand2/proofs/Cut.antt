@@ -10,7 +10,7 @@ use Rattle.ground.specs.Numbers.{most_samples}
 use Rattle.part.specs.declared.state.State.{State}
 use Rattle.ground.specs.Verdict.{accepted}
 use Rattle.refusals.specs.Refusals.{judged_of}
-use Rattle.ground.specs.declared.Reply.TheVariants.{Accepted}
+use Rattle.std.specs.Prelude.{Ok}
 use Rattle.power.specs.declared.Replayed.{Replayed}
 use Rattle.sample.specs.Run.{Part, run_of}
 use Rattle.twin.specs.Promises.{Replays}
@@ -49,10 +49,10 @@ module _ (d : Demand2) (s : State) (es ls array row row₁ row₂ : List ℕ) (k
       in
       let v = d.whole r₁.state (drop k es) (drop k ls) array₁ row₂ m r₂ array₂ said₂ x₂ in
       let both = q.replay s array row row₁ row₂ k m r₁ r₂ array₁ array₂ said₁ said₂ x₁ x₂ c.answers most in
-      let g : Accepts s es ls array row (k + m) (record { reply = Accepted (k + m); state = r₂.state }) array₂ (said₁ ++ said₂) =
+      let g : Accepts s es ls array row (k + m) (record { reply = Ok (k + m); state = r₂.state }) array₂ (said₁ ++ said₂) =
       rw (te, tl) at both
       in
-      let h = d.whole s es ls array row (k + m) (record { reply = Accepted (k + m); state = r₂.state }) array₂ (said₁ ++ said₂) g in
+      let h = d.whole s es ls array row (k + m) (record { reply = Ok (k + m); state = r₂.state }) array₂ (said₁ ++ said₂) g in
       let i = d.whole s es ls array row (k + m) r array' said x in
       record {
         first = u.reply;

@@ -16,7 +16,7 @@ use Rattle.levels.specs.Level.{answer_of}
 use Rattle.ground.specs.Verdict.{Verdict, accepted, meant}
 use Rattle.limits.specs.Samples.{sample_by, samples_of}
 use Rattle.refusals.specs.Refusals.{judged_of}
-use Rattle.ground.specs.declared.Reply.TheVariants.{Accepted}
+use Rattle.std.specs.Prelude.{Ok}
 use Rattle.ground.proofs.Verdicts.{apart, meant-one}
 use Rattle.refusals.proofs.Laws.{judged-passed, rows-equal}
 use Rattle.power.specs.declared.Replayed.{Replayed}
@@ -107,7 +107,7 @@ module _ (s : State) (es ls array row : List ℕ) (n : ℕ) (j : judged_of s es 
 
   -- A run of the samples is an accepted replay.
   runs-replays : (t : State) (array' row' : List ℕ) → Runs s es ls array t array' row'
-      → Replays s es ls array row (record { reply = Accepted n; state = t }) array' row'
+      → Replays s es ls array row (record { reply = Ok n; state = t }) array' row'
   unfolding meant
   runs-replays t array' row' x =
       record { reply = sym j; state = rw j x.state; kept = rw j x.kept; said = rw j x.said }
@@ -121,7 +121,7 @@ module _ (s : State) (es ls array row : List ℕ) (n : ℕ) (j : judged_of s es 
       let c = counted in
       let w = replays-runs r array' row' x in
       record {
-        reply = meant-one r.reply (Accepted n) (x.reply ∙ j);
+        reply = meant-one r.reply (Ok n) (x.reply ∙ j);
         runs = w;
         answers = ap length w.said ∙ answers-length es ls p (omega arith) ∙ c.levels;
         each = λ i h. rw w.said (answers_at_lem es ls p i (omega arith) h);

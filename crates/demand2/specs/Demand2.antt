@@ -7,13 +7,12 @@
 -- accepted, and so is its second, from the state and the array that the first leaves.
 -- For a person from the line: what it answers to a recording is what the rules give, one sample after the other, and there is an answer for every
 -- sample. You may play a recording of at most 65,536 samples in pieces.
-use Rattle.std.specs.Prelude.{ℕ, ◌+◌, ◌<◌, ◌≤◌, List, ◌++◌, ◌≡◌, length, get_or, take}
+use Rattle.std.specs.Prelude.{ℕ, ◌+◌, ◌<◌, ◌≤◌, List, ◌++◌, ◌≡◌, length, get_or, take, Ok}
 use Rattle.ground.specs.Numbers.{most_samples}
 use Rattle.part.specs.declared.state.State.{State}
 use Rattle.levels.specs.Level.{answer_of}
 use Rattle.ground.specs.Verdict.{accepted}
 use Rattle.refusals.specs.Refusals.{judged_of}
-use Rattle.ground.specs.declared.Reply.TheVariants.{Accepted}
 use Rattle.power.specs.declared.Replayed.{Replayed}
 use Rattle.sample.specs.Run.{Part, run_of, answers_of}
 use Rattle.twin.specs.Promises.{Replays, Runs}
@@ -25,7 +24,7 @@ pub record Accepts (s : State) (es ls array row : List ℕ) (n : ℕ) (r : Repla
 
 -- All of it as the rules give it, answer i that of the part after samples 0 to i (What goes in and what comes out).
 pub record ByRules (s : State) (es ls array row : List ℕ) (n : ℕ) (r : Replayed) (array' row' : List ℕ) : Type 0 where
-  pub reply : r.reply ≡ Accepted n
+  pub reply : r.reply ≡ Ok n
   pub runs : Runs s es ls array r.state array' row'
   pub answers : length row' ≡ n
   pub each : (i : ℕ) → i < length ls → get_or row' i 0
@@ -42,7 +41,7 @@ pub record Pieces (es₁ ls₁ es₂ ls₂ : List ℕ) : Type 0 where
       → Accepts r₁.state es₂ ls₂ array₁ row₂ n₂ r₂ array₂ said₂
       → length row ≡ n₁ + n₂ → n₁ + n₂ ≤ most_samples
       → Accepts s (es₁ ++ es₂) (ls₁ ++ ls₂) array row (n₁ + n₂)
-      (record { reply = Accepted (n₁ + n₂); state = r₂.state }) array₂ (said₁ ++ said₂)
+      (record { reply = Ok (n₁ + n₂); state = r₂.state }) array₂ (said₁ ++ said₂)
   -- An accepted whole can be cut anywhere: both pieces are accepted (Refusal numbers, 4 to 10; State and time, ranges).
   pub split : (p : Part) (row row₁ row₂ : List ℕ) (n : ℕ) → length es₁ ≡ length ls₁
       → judged_of p.state (es₁ ++ es₂) (ls₁ ++ ls₂) p.array row ≡ accepted n
@@ -53,8 +52,8 @@ pub record Pieces (es₁ ls₁ es₂ ls₂ : List ℕ) : Type 0 where
 -- What two pieces of a capture came to, beside what the whole came to: both are accepted with their lengths, and joined they are the whole
 -- (State and time, each sample).
 pub record Joined (k m : ℕ) (r r₁ r₂ : Replayed) (array' array₂ said said₁ said₂ : List ℕ) : Type 0 where
-  pub first : r₁.reply ≡ Accepted k
-  pub second : r₂.reply ≡ Accepted m
+  pub first : r₁.reply ≡ Ok k
+  pub second : r₂.reply ≡ Ok m
   pub state : r.state ≡ r₂.state
   pub kept : array' ≡ array₂
   pub answers : said ≡ said₁ ++ said₂

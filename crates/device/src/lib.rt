@@ -7,84 +7,78 @@ ghost use Rattle.address.specs.Talk.{rested};
 ghost use Rattle.device.specs.Bytes.{taken_of, data_by, register_by, register_sent, byte_of, kept_by, expects_data, Fills};
 
 use ground::kinds::Kind;
-use part::state::{Control, Device, Load, Phase};
+use part::state::{Device, Load, Phase};
 
 // Whether an array byte is taken.
+#[tactic(auto, unfolding(crate::specs::Bytes::taken_of))]
 pub fn taken(kind: Kind, d: Device) -> bool
     ensures { result ≡ taken_of kind d }
 {
-    let control = d.control;
-    control.wel & !lock::locked(kind, control.stored, d.counter)
+    d.control.wel & !lock::locked(kind, d.control.stored, d.counter)
 }
 
 // The device after an array byte that is taken, or is not.
 pub fn data(takes: bool, d: Device) -> Device
     ensures { result ≡ data_by takes d }
 {
-    let mut next = d;
     if takes {
-        let t = address::acknowledge(Phase::Data);
-        let p = page::next_in_page(d.counter);
-        next.talk = t;
-        next.counter = p;
-        return next;
+        return Device {
+            talk: address::acknowledge(Phase::Data),
+            counter: page::next_in_page(d.counter),
+            ..d
+        };
     }
-    let t = address::rest(Phase::Silent);
-    next.talk = t;
-    next
+    Device {
+        talk: address::rest(Phase::Silent),
+        ..d
+    }
 }
 
 fn register(d: Device, v: u8) -> Device
     ensures { result ≡ register_by d.control.pending d v }
 {
-    let control = d.control;
-    let mut next = d;
-    if control.pending {
-        let t = address::rest(Phase::Silent);
-        let c = address::unpend(control);
-        next.talk = t;
-        next.control = c;
-        return next;
+    if d.control.pending {
+        return Device {
+            talk: address::rest(Phase::Silent),
+            control: address::unpend(d.control),
+            ..d
+        };
     }
-    let t = address::acknowledge(Phase::Register);
-    let c = address::pend(control, v);
-    next.talk = t;
-    next.control = c;
-    next
+    Device {
+        talk: address::acknowledge(Phase::Register),
+        control: address::pend(d.control, v),
+        ..d
+    }
 }
 
 // A byte of the array has been sent.
 fn sent(d: Device) -> Device
     ensures { result ≡ with_talk d (rested Phase.Send) }
 {
-    let t = address::rest(Phase::Send);
-    let mut next = d;
-    next.talk = t;
-    next
+    Device {
+        talk: address::rest(Phase::Send),
+        ..d
+    }
 }
 
 // The register has been sent, once.
 fn register_sent(d: Device) -> Device
     ensures { result ≡ register_sent d }
 {
-    let control = d.control;
-    let t = address::rest(Phase::Silent);
-    let c = address::choose(control, false);
-    let mut next = d;
-    next.talk = t;
-    next.control = c;
-    next
+    Device {
+        talk: address::rest(Phase::Silent),
+        control: address::choose(d.control, false),
+        ..d
+    }
 }
 
 // The device after a byte.
+#[tactic(auto, unfolding(crate::specs::Bytes::byte_of))]
 pub fn byte(kind: Kind, select: u8, d: Device, v: u8) -> Device
     ensures { result ≡ byte_of kind select d v }
 {
-    let talk = d.talk;
-    let phase = talk.phase;
-    match phase {
-        Phase::Idle => d,
-        Phase::Silent => d,
+    match d.talk.phase {
+        Phase::Idle | Phase::Silent => d,
         Phase::Slave => address::slave(select, d, v),
         Phase::High => address::high(d, v),
         Phase::Low => address::low(kind, d, v),
@@ -96,42 +90,26 @@ pub fn byte(kind: Kind, select: u8, d: Device, v: u8) -> Device
 }
 
 // Whether a byte goes into the page load: array data that is taken.
+#[tactic(auto, unfolding(crate::specs::Bytes::kept_of))]
 pub fn fills(kind: Kind, d: Device) -> bool
     ensures { Fills kind d result }
 {
-    let talk = d.talk;
-    let phase = talk.phase;
-    let Phase::Data = phase else {
-        return false;
-    };
-    taken(kind, d)
+    expects_data(d) && taken(kind, d)
 }
 
 // The page load after an array byte that is taken, or is not.
 pub fn kept(takes: bool, d: Device, v: u8, load: Load) -> Load
     ensures { result ≡ kept_by takes d v load }
 {
-    if takes {
-        return page::filled(load, d.counter, v);
+    if !takes {
+        return load;
     }
-    load
+    page::filled(load, d.counter, v)
 }
 
 // Whether a byte would be array data: no other byte touches the load.
 pub fn expects_data(d: Device) -> bool
     ensures { result ≡ expects_data d.talk.phase }
 {
-    let talk = d.talk;
-    let phase = talk.phase;
-    match phase {
-        Phase::Data => true,
-        Phase::Idle => false,
-        Phase::Silent => false,
-        Phase::Slave => false,
-        Phase::High => false,
-        Phase::Low => false,
-        Phase::Register => false,
-        Phase::Send => false,
-        Phase::SendRegister => false,
-    }
+    matches!(d.talk.phase, Phase::Data)
 }

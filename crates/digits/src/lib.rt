@@ -12,44 +12,40 @@ pub const BASE: u8 = 16;
 pub fn within(low: u8, high: u8, character: u8) -> bool
     ensures { result ≡ within low high character }
 {
-    if character >= low {
-        return character <= high;
-    }
-    false
+    (low..=high).contains(&character)
 }
 
 // Whether a character is a digit.
 pub fn is_digit(character: u8) -> bool
     ensures { result ≡ is_digit character }
 {
-    within(0x30, 0x39, character) | within(0x41, 0x46, character)
+    within(b'0', b'9', character) | within(b'A', b'F', character)
 }
 
 // What a letter's value has beyond its lower four bits.
 fn shift(character: u8) -> u8
     ensures { result ≡ shift_by (ltb character 0x41) }
 {
-    if character < 0x41 {
-        return 0;
-    }
-    9
+    if character < b'A' { 0 } else { 9 }
 }
 
 // The value of a digit; of any other character it means nothing.
+#[tactic(auto, using(crate::proofs::DigitLaws::shift_small), unfolding(crate::specs::Values::value_of))]
 pub fn value(character: u8) -> u8
     ensures { result ≡ value_of character }
 {
     (character % BASE + shift(character)) % BASE
 }
 
+#[tactic(auto, unfolding(crate::specs::Digits::glyph_of))]
 fn glyph(value: u8) -> u8
     requires { value < 16 }
     ensures { result ≡ glyph_of value }
 {
-    if value < 10 {
-        return value + 0x30;
+    match value {
+        0..=9 => b'0' + value,
+        _ => b'A' + (value - 10),
     }
-    value + 0x37
 }
 
 // The character of a byte's higher digit.

@@ -1,17 +1,16 @@
 -- Laws of opening a dump and of the whole report. Assumes nothing.
 use Prim.Native.Nat.{ℕ, ◌<◌}
-use mathlib.Core.Bool.{Bool}
+use mathlib.Core.Bool.{Bool, true, false}
 use mathlib.Core.List.{List, [], ◌∷◌}
 use mathlib.Core.Path.{◌≡◌, refl, ap, sym, subst, ◌∙◌}
 use native.Mathlib.Omega.{arith}
 use lib.Dec.{eqb}
 use lib.ListN.{length}
-use borrow.Author.Tests.{eq-eqb, ne_eqb}
+use borrow.Author.Tests.{eq-eqb, ne_eqb, eqb-true}
+use Rattle.std.specs.Prelude.{Option, Result, Ok, Err, IfOk}
 use Rattle.ground.specs.Kind.{kind_of}
-use Rattle.ground.specs.declared.kinds.Kind.{Kind}
-use Rattle.ground.specs.Verdict.{Verdict, accepted, refused, meant}
-use Rattle.ground.specs.declared.Reply.{Reply}
-use Rattle.ground.specs.declared.Reply.TheVariants.{Accepted, Refused}
+use Rattle.ground.specs.Verdict.{Verdict, accepted, refused, number_of, meant}
+use Rattle.ground.specs.declared.Refusal.{Refusal}
 use Rattle.ground.proofs.Verdicts.{is-accepted, is-refused, apart}
 use Rattle.part.specs.declared.state.State.{State}
 use Rattle.refusals.specs.Refusals.{power_of}
@@ -20,7 +19,6 @@ use Rattle.ranges.specs.Fit.{Fit}
 use Rattle.onward.proofs.Onward.{power-fit}
 use Rattle.dumps.specs.Samples.{samples_in}
 use Rattle.dumps.specs.Faults.{Fault, verdict_by, faults_of, dump_verdict}
-use Rattle.judging.specs.Promises.{Judges}
 use Rattle.pieces.specs.declared.Mark.{Mark}
 use Rattle.pieces.specs.Marks.{left_from}
 use Rattle.pieces.specs.Promises.{Begins}
@@ -37,104 +35,92 @@ counted : (dump : List ℕ) (n : ℕ) → dump_verdict dump ≡ accepted n → l
 unfolding dump_verdict
 counted dump n e = counted-by (faults_of dump) (length (samples_in dump)) n e
 
+-- An accepted opening stands on an accepted power-up, an array of the part's size and an accepted dump.
+open-parts : (v : Verdict) (sized : Bool) (u : Verdict) (n : ℕ) → open_by v sized u ≡ accepted n
+    → ((k : ℕ) × (v ≡ accepted k)) × (sized ≡ true) × (u ≡ accepted n)
+open-parts (accepted k) true u n e = ((k, refl), refl, e)
+open-parts (accepted k) false u n e = absurd (apart 5 0 n e)
+open-parts (refused k p) sized u n e = absurd (apart k p n e)
+
+-- The verdict by the order of the tests.
+module _ (powered : Result ℕ Refusal) (u : Verdict) where
+  pub open-unpowered : (k : Refusal) (sized : Bool) → powered ≡ Err k → refused (number_of k.reason) k.place ≡ open_by (meant powered) sized u
+  unfolding meant
+  open-unpowered k sized e = rw e
+
+  module _ (n length size : ℕ) (e : powered ≡ Ok n) where
+    pub open-unsized : (length ≡ size → ⊥) → refused 5 0 ≡ open_by (meant powered) (eqb length size) u
+    unfolding meant
+    open-unsized h = rw (e, ne_eqb length size h)
+
+    pub open-judged : length ≡ size → u ≡ open_by (meant powered) (eqb length size) u
+    unfolding meant
+    open-judged h = rw (e, eq-eqb length size h)
+
 module _ (part select stored : ℕ) (dump array : List ℕ) where
-  -- The verdict by the order of the tests.
-  power-refuses : (k p : ℕ) → power_of part select stored ≡ refused k p → open_verdict part select stored dump array ≡ refused k p
-  unfolding open_verdict
-  power-refuses k p e = rw e
+  abbrev sized : Bool
+  sized = eqb (length array) (kind_of part).size
 
-  size-refuses : (n : ℕ) → power_of part select stored ≡ accepted n → (length array ≡ (kind_of part).size → ⊥)
-      → open_verdict part select stored dump array ≡ refused 5 0
-  unfolding open_verdict
-  size-refuses n e h = rw (e, ne_eqb (length array) (kind_of part).size h)
-
+  -- Behind an accepted power-up and an array of the part's size the dump decides.
   pub dump-decides : (n : ℕ) → power_of part select stored ≡ accepted n → length array ≡ (kind_of part).size
       → open_verdict part select stored dump array ≡ dump_verdict dump
   unfolding open_verdict
   dump-decides n e h = rw (e, eq-eqb (length array) (kind_of part).size h)
 
   -- The part at an accepted opening is that at power-up.
-  powered : (v : Verdict) (sized : Bool) (u : Verdict) (n : ℕ) → open_by v sized u ≡ accepted n
-      → power_state v part select stored ≡ powered_up part select stored
-  powered (accepted k) sized u n e = refl
-  powered (refused k p) sized u n e = absurd (apart k p n e)
-
   pub opened-power : (n : ℕ) → open_verdict part select stored dump array ≡ accepted n
       → power_state (power_of part select stored) part select stored ≡ powered_up part select stored
   unfolding open_verdict
-  opened-power n e = powered (power_of part select stored) (eqb (length array) (kind_of part).size) (dump_verdict dump) n e
+  opened-power n e = let p = open-parts (power_of part select stored) sized (dump_verdict dump) n e in rw p.0.1
 
-  module _ (m : Mark) (b : Begins dump m) (w : State) (s : w ≡ power_state (power_of part select stored) part select stored) where
-    opens-refused : (reply : Reply) (k p : ℕ) → meant reply ≡ open_verdict part select stored dump array
-        → open_verdict part select stored dump array ≡ refused k p
-        → Opens part select stored dump array (record { reply = reply; stand = record { state = w; mark = m; next = 0 } })
-    opens-refused reply k p e f =
-        record { reply = e; state = s; left = b.left; next = refl; stands = λ n h. absurd (apart k p n (sym f ∙ h)) }
+  -- The dump is begun, and its places are numbers.
+  module _ (powered : Result ℕ Refusal) (w : State) (reply : Result ℕ Refusal) (m : Option Mark) (b : Begins dump m)
+      (e : meant powered ≡ power_of part select stored) (s : w ≡ power_state (power_of part select stored) part select stored)
+      (v : meant reply ≡ open_by (meant powered) (eqb (length array) (kind_of part).size) (dump_verdict dump))
+      (t : IfOk reply (λ n. n < 18446744073709551616)) where
+    opens-verdict : meant reply ≡ open_verdict part select stored dump array
+    unfolding open_verdict
+    opens-verdict = rw e at v
 
-    -- Refusals 1 to 3.
-    pub opens-unpowered : (reply : Reply) (k p : ℕ) → meant reply ≡ power_of part select stored → reply ≡ Refused k p
-        → Opens part select stored dump array (record { reply = reply; stand = record { state = w; mark = m; next = 0 } })
-    opens-unpowered reply k p e f =
-        let v : power_of part select stored ≡ refused k p = is-refused reply (power_of part select stored) k p e f in
-        opens-refused reply k p (e ∙ v ∙ sym (power-refuses k p v)) (power-refuses k p v)
+    small-by : (q : Result ℕ Refusal) (n : ℕ) → meant q ≡ accepted n → IfOk q (λ n. n < 18446744073709551616) → n < 18446744073709551616
+    unfolding meant
+    small-by (Ok k) n f h = let g : k ≡ n = cc in rw g at h
+    small-by (Err k) n f h = absurd (apart _ _ n f)
 
-    -- Behind an accepted power-up: refusal 5, then the dump's own verdict.
-    module _ (reply : Reply) (n : ℕ) (e : meant reply ≡ power_of part select stored) (f : reply ≡ Accepted n) (kind : Kind)
-        (g : kind ≡ kind_of part) where
-      powers : power_of part select stored ≡ accepted n
-      powers = is-accepted reply (power_of part select stored) n e f
+    opens-stands : (n : ℕ) → open_verdict part select stored dump array ≡ accepted n
+        → Stands dump (record { state = w; mark = m; next = 0 }) array
+    unfolding open_verdict
+    opens-stands n x =
+        let p = open-parts (power_of part select stored) sized (dump_verdict dump) n x in
+        let l : length (left_from dump m) ≡ n = ap length b.left ∙ counted dump n p.2 in
+        let o : w ≡ powered_up part select stored = s ∙ opened-power n x in
+        let f = power-fit part select stored array p.0.0 p.0.1 (eqb-true (length array) (kind_of part).size p.1) in
+        let k = small-by reply n (opens-verdict ∙ x) t in
+        record {
+          fit = subst (λ (z : State). Fit (record { state = z; array = array })) (sym o) f;
+          low = b.low;
+          numbered = omega arith;
+        }
 
-      pub opens-unsized : (length array ≡ kind.size → ⊥)
-          → Opens part select stored dump array (record { reply = Refused 5 0; stand = record { state = w; mark = m; next = 0 } })
-      unfolding meant
-      opens-unsized h = let v = size-refuses n powers (rw g at h) in opens-refused (Refused 5 0) 5 0 (sym v) v
-
-      module _ (h : length array ≡ kind.size) (judged : Reply) (d : Judges dump judged) where
-        decides : open_verdict part select stored dump array ≡ dump_verdict dump
-        decides = dump-decides n powers (rw g at h)
-
-        pub opens-faulty : (k p : ℕ) → judged ≡ Refused k p
-            → Opens part select stored dump array (record { reply = judged; stand = record { state = w; mark = m; next = 0 } })
-        opens-faulty k p q =
-            opens-refused judged k p (d.reply ∙ sym decides) (decides ∙ is-refused judged (dump_verdict dump) k p d.reply q)
-
-        pub opens-sound : (k : ℕ) → judged ≡ Accepted k → k < 18446744073709551616
-            → Opens part select stored dump array (record { reply = Accepted k; stand = record { state = w; mark = m; next = 0 } })
-        unfolding meant
-        opens-sound k q t =
-            let v : dump_verdict dump ≡ accepted k = is-accepted judged (dump_verdict dump) k d.reply q in
-            let l : length (left_from dump m) ≡ k = ap length b.left ∙ counted dump k v in
-            let o : w ≡ powered_up part select stored = s ∙ (rw powers) in
-            let fit = power-fit part select stored array n powers (rw g at h) in
-            record {
-              reply = sym (decides ∙ v);
-              state = s;
-              left = b.left;
-              next = refl;
-              stands = λ i x.
-                  record {
-                    fit = subst (λ (z : State). Fit (record { state = z; array = array })) (sym o) fit;
-                    low = b.low;
-                    numbered = omega arith;
-                  };
-            }
+    pub opens : Opens part select stored dump array (record { reply = reply; stand = record { state = w; mark = m; next = 0 } })
+    opens = record { reply = opens-verdict; state = s; left = b.left; next = refl; stands = opens-stands }
 
   module _ (row : List ℕ) (r : Opened) (o : Opens part select stored dump array r) where
     -- An accepted opening is a stand.
-    pub opened-stands : (n : ℕ) → r.reply ≡ Accepted n → Stands dump r.stand array
+    pub opened-stands : (n : ℕ) → r.reply ≡ Ok n → Stands dump r.stand array
     opened-stands n e = o.stands n (is-accepted r.reply (open_verdict part select stored dump array) n o.reply e)
 
     -- The report: refused, nothing has changed.
-    pub reports-refused : (k p : ℕ) → r.reply ≡ Refused k p → Reports part select stored dump array row r.reply array row
+    pub reports-refused : (k : Refusal) → r.reply ≡ Err k → Reports part select stored dump array row (Err k) array row
     unfolding meant
-    reports-refused k p e =
-        let v = is-refused r.reply (open_verdict part select stored dump array) k p o.reply e in
-        record { reply = rw (v, e); kept = rw v; said = rw v }
+    reports-refused k e =
+        let v = is-refused r.reply (open_verdict part select stored dump array) k o.reply e in
+        record { reply = rw v; kept = rw v; said = rw v }
 
     -- Accepted, all samples have been replayed from power-up on.
-    pub reports-accepted : (n found : ℕ) (array' row' : List ℕ) → r.reply ≡ Accepted n
+    pub reports-accepted : (n found : ℕ) (array' row' : List ℕ) → r.reply ≡ Ok n
         → PlaysOn dump r.stand array row found array' row'
-        → Reports part select stored dump array row (Accepted found) array' row'
+        → Reports part select stored dump array row (Ok found) array' row'
     unfolding meant places_of
     reports-accepted n found array' row' e x =
         let v = is-accepted r.reply (open_verdict part select stored dump array) n o.reply e in

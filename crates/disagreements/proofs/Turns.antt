@@ -5,6 +5,7 @@ use mathlib.Core.Path.{◌≡◌, refl, ap, sym, subst, ◌∙◌}
 use native.Mathlib.Omega.{arith}
 use lib.ListN.{length, take, drop, length-drop}
 use lib.Seq.{length-take-le, take_at}
+use Rattle.std.specs.Prelude.{Option}
 use Rattle.ground.specs.Verdict.{accepted}
 use Rattle.refusals.specs.Refusals.{judged_of}
 use Rattle.power.specs.declared.Replayed.{Replayed}
@@ -26,7 +27,7 @@ use Rattle.disagreements.specs.Promises.{part_of_stand, Stands, Plays, PlaysOn}
 use Rattle.disagreements.proofs.Piecewise.{elapsed-length, levels-length, said-length, piece-judged, Playing, playing-starts, playing-ends, playing-on}
 
 -- A piece filled into rows.
-module _ (dump : List ℕ) (m : Mark) (elapsed levels : List ℕ) (r : Filled) (elapsed' levels' : List ℕ)
+module _ (dump : List ℕ) (m : Option Mark) (elapsed levels : List ℕ) (r : Filled) (elapsed' levels' : List ℕ)
     (f : Fills dump m elapsed levels r elapsed' levels') where
   pub piece-length : length (take r.count (left_from dump m)) ≡ r.count
   piece-length = let c = f.count in length-take-le r.count (left_from dump m) (omega arith)

@@ -1,15 +1,14 @@
 -- What the operations on a dump promise: begin and report for every input, play for a stand that a begin or a play has left.
-use Rattle.std.specs.Prelude.{ℕ, ◌+◌, ◌≤◌, ◌<◌, min, List, ◌++◌, ◌≡◌, length, take, drop}
-use Rattle.ground.specs.Numbers.{most_level}
+use Rattle.std.specs.Prelude.{ℕ, ◌+◌, ◌<◌, min, Result, List, ◌++◌, ◌≡◌, length, take, drop}
 use Rattle.part.specs.Bench.{part_of}
 use Rattle.ground.specs.Verdict.{accepted, meant}
-use Rattle.ground.specs.declared.Reply.{Reply}
+use Rattle.ground.specs.declared.Refusal.{Refusal}
 use Rattle.refusals.specs.Refusals.{power_of}
 use Rattle.sample.specs.Run.{Part, answers_of}
 use Rattle.power.specs.Power.{at_power, power_state}
 use Rattle.ranges.specs.Fit.{Fit}
 use Rattle.dumps.specs.Samples.{samples_in, elapsed_of, levels_of}
-use Rattle.pieces.specs.Marks.{left_from}
+use Rattle.pieces.specs.Marks.{left_from, Low}
 use Rattle.disagreements.specs.declared.Stand.{Stand}
 use Rattle.disagreements.specs.declared.Opened.{Opened}
 use Rattle.disagreements.specs.declared.Played.{Played}
@@ -22,7 +21,7 @@ part_of_stand s array = part_of s.state array
 -- A stand from which a dump can be replayed on: the part takes any piece, and the places of all samples that are left are numbers.
 pub record Stands (dump : List ℕ) (s : Stand) (array : List ℕ) : Type 0 where
   pub fit : Fit (part_of_stand s array)
-  pub low : s.mark.level ≤ most_level
+  pub low : Low s.mark
   pub numbered : s.next + length (left_from dump s.mark) < 18446744073709551616
 
 -- Begin: the verdict, and the part at power-up before the first sample (2026-03, refusals; Refusal numbers, 1 to 3, 5).
@@ -54,7 +53,7 @@ pub record PlaysOn (dump : List ℕ) (s : Stand) (array row : List ℕ) (r : ℕ
 
 -- The report of a whole dump: how many places disagree, the first of them in the row, and the array after all samples; refused, nothing has
 -- changed (2026-03, the report and its refusals).
-pub record Reports (part select stored : ℕ) (dump array row : List ℕ) (r : Reply) (array' row' : List ℕ) : Type 0 where
+pub record Reports (part select stored : ℕ) (dump array row : List ℕ) (r : Result ℕ Refusal) (array' row' : List ℕ) : Type 0 where
   pub reply : meant r ≡ report_by (open_verdict part select stored dump array) (length (places_of part select stored dump array))
   pub kept : array' ≡ array_by (open_verdict part select stored dump array) (part_after_all (samples_in dump) (at_power part select stored array)).array array
   pub said : row' ≡ array_by (open_verdict part select stored dump array) (laid_over (places_of part select stored dump array) row) row

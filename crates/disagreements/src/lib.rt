@@ -1,26 +1,30 @@
 // Where a dump and the twin disagree: each sample with SCL high that the dump shows with SDA high while the twin pulls it low.
 #![tactic(auto)]
 
-ghost use Rattle.std.specs.Prelude.{◌≡◌, ◌≤◌, length};
+ghost use Rattle.std.specs.Prelude.{◌≡◌, ◌≤◌, ◌<◌, length, eqb, IfOk};
 ghost use Rattle.ground.specs.Numbers.{most_samples};
+ghost use Rattle.ground.specs.Kind.{kind_of};
+ghost use Rattle.ground.specs.Verdict.{meant};
+ghost use Rattle.dumps.specs.Faults.{dump_verdict};
+ghost use Rattle.places.specs.Places.{open_by};
 ghost use Rattle.disagreements.specs.Promises.{Opens, Plays, PlaysOn, Reports, Stands};
 
-use ground::{Reply, kinds};
+use ground::{Reason, Reply, kinds};
 use part::state::State;
 use pieces::Mark;
 
 // The samples of a piece, as the report takes them: rows of this length are quick, and where the cuts fall makes no difference.
 pub const PIECE: usize = 4096;
 
-// Where a dump is left: the part, the mark of the next sample, and its place.
+// Where a dump is left: the part, the mark of the next sample, if the dump is not over, and the sample's place.
 #[derive(Clone, Copy)]
 pub struct Stand {
     pub state: State,
-    pub mark: Mark,
+    pub mark: Option<Mark>,
     pub next: usize,
 }
 
-// The reply to a dump, and where its replay begins.
+// The reply to a dump, and where its replay begins; after a refusal too, for `Opens` promises that as well.
 #[derive(Clone, Copy)]
 pub struct Opened {
     pub reply: Reply,
@@ -34,42 +38,32 @@ pub struct Played {
     pub stand: Stand,
 }
 
+// Judges the array behind a power-up, then the dump.
+fn judge(part: u16, powered: Reply, dump: &[u8], array: &[u8]) -> Reply
+    ensures said { meant result ≡ open_by (meant powered) (eqb (length array.now) (kind_of part).size) (dump_verdict dump.now) }
+    ensures small { IfOk result (λ n. n < 18446744073709551616) }
+{
+    powered?;
+    let kind = kinds::kind_of(part);
+    if array.len() != usize::from(kind.size) {
+        return Err(Reason::ArrayLength.into());
+    }
+    let samples = judging::judge(dump)?;
+    Ok(samples)
+}
+
 // Judges part, select, stored byte, array and dump, in this order, and powers the part up.
 pub fn begin(part: u16, select: u8, stored: u8, dump: &[u8], array: &[u8]) -> Opened
     ensures { Opens part select stored dump.now array.now result }
 {
     let powered = twin::power_up(part, select, stored);
-    let state = powered.state;
-    let mark = pieces::begin(dump);
-    let stand = Stand {
-        state,
-        mark,
-        next: 0,
-    };
-    let reply = powered.reply;
-    let Reply::Accepted(_) = reply else {
-        return Opened { reply, stand };
-    };
-    let kind = kinds::kind_of(part);
-    if array.len() != kind.size as usize {
-        return Opened {
-            reply: Reply::Refused {
-                number: 5,
-                place: 0,
-            },
-            stand,
-        };
-    }
-    let judged = judging::judge(dump);
-    let Reply::Accepted(samples) = judged else {
-        return Opened {
-            reply: judged,
-            stand,
-        };
-    };
     Opened {
-        reply: Reply::Accepted(samples),
-        stand,
+        reply: judge(part, powered.reply, dump, array),
+        stand: Stand {
+            state: powered.state,
+            mark: pieces::begin(dump),
+            next: 0,
+        },
     }
 }
 
@@ -97,13 +91,11 @@ pub fn play(
         array,
         &mut answers[..count],
     );
-    let state = replayed.state;
-    let mark = filled.mark;
     Played {
         count,
         stand: Stand {
-            state,
-            mark,
+            state: replayed.state,
+            mark: filled.mark,
             next: stand.next + count,
         },
     }
@@ -151,22 +143,18 @@ pub fn report(
     ensures { Reports part select stored dump.now array.old places.old result array.new places.new }
 {
     let opened = begin(part, select, stored, dump, array);
-    let reply = opened.reply;
-    let Reply::Accepted(_) = reply else {
-        return reply;
-    };
+    opened.reply?;
     let mut elapsed = [0u32; PIECE];
     let mut levels = [0u8; PIECE];
     let mut answers = [0u8; PIECE];
-    let stand = opened.stand;
     let found = play_on(
         dump,
-        stand,
+        opened.stand,
         array,
         places,
         &mut elapsed,
         &mut levels,
         &mut answers,
     );
-    Reply::Accepted(found)
+    Ok(found)
 }

@@ -14,11 +14,11 @@ use texts::numbers;
 // The longest text of a sample: a time line of 22 bytes, and eight values of three.
 pub const ROOM: usize = 46;
 
-const HASH: u8 = 0x23;
+const HASH: u8 = b'#';
 
 // What is drawn so far: whether there was a sample, and of the last one its time, the part's own SDA level after it, and the levels
-// of the eight wires.
-#[derive(Clone, Copy)]
+// of the eight wires. Any may be given, also a time and levels with no sample, so they are no Option.
+#[derive(Clone, Copy, Debug, PartialEq, Eq)]
 pub struct Drawn {
     pub begun: bool,
     pub time: u64,
@@ -27,7 +27,7 @@ pub struct Drawn {
 }
 
 // What is drawn with one sample more, and the length of its text.
-#[derive(Clone, Copy)]
+#[derive(Clone, Copy, Debug, PartialEq, Eq)]
 pub struct Put {
     pub drawn: Drawn,
     pub length: usize,
@@ -71,9 +71,10 @@ fn apart(begun: bool, elapsed: u32) -> u64
     ensures { result ≡ apart_by (begun && eqb elapsed 0) elapsed }
 {
     if begun & (elapsed == 0) {
-        return 1;
+        1
+    } else {
+        u64::from(elapsed)
     }
-    elapsed as u64
 }
 
 // The time of the next sample. It may pass 4,294,967,295, the last that request 2026-03 lets a dump have: viewers of dumps take it.
@@ -81,11 +82,7 @@ fn apart(begun: bool, elapsed: u32) -> u64
 fn time(drawn: Drawn, elapsed: u32) -> u64
     ensures { result ≡ time_of drawn elapsed }
 {
-    let apart = apart(drawn.begun, elapsed);
-    if drawn.time > u64::MAX - apart {
-        return u64::MAX;
-    }
-    drawn.time + apart
+    drawn.time.saturating_add(apart(drawn.begun, elapsed))
 }
 
 fn next(drawn: Drawn, elapsed: u32, level: u8, answer: u8) -> Drawn

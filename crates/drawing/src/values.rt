@@ -5,15 +5,12 @@ ghost use Rattle.drawing.specs.Wires.{first_code};
 ghost use Rattle.drawing.specs.Drawing.{figure_of, value_by, values_of};
 
 // The code of the first wire; those of the others follow it.
-const FIRST_CODE: u8 = 0x61;
+const FIRST_CODE: u8 = b'a';
 
 fn figure(level: bool) -> u8
     ensures { result ≡ figure_of level }
 {
-    if level {
-        return 0x31;
-    }
-    0x30
+    if level { b'1' } else { b'0' }
 }
 
 // Writes the line of one wire over `out` from `at` on, unless its level stays, and answers where it ends.
@@ -38,13 +35,9 @@ pub fn put(begun: bool, before: [bool; 8], after: [bool; 8], out: &mut [u8], fro
     ensures upper_bound { result ≤ from + 24 }
 {
     let mut at = from;
-    let mut code = FIRST_CODE;
-    let mut i = 0;
-    while i < 8 {
-        let stays = begun & (before[i] == after[i]);
-        at = put_value(stays, code, after[i], out, at);
-        code += 1;
-        i += 1;
+    for (i, &level) in after.iter().enumerate() {
+        let stays = begun & (before[i] == level);
+        at = put_value(stays, FIRST_CODE + i as u8, level, out, at);
     }
     at
 }

@@ -11,46 +11,32 @@ use part::state::{Control, Device, Phase};
 fn drop_all(c: Control) -> Control
     ensures { result ≡ dropped c }
 {
-    let mut next = c;
-    next.pending = false;
-    next.value = 0;
-    next.chosen = false;
-    next
+    Control {
+        pending: false,
+        value: 0,
+        chosen: false,
+        ..c
+    }
 }
 
 // The device after a start, which nobody hears while a write cycle runs.
+#[tactic(auto, unfolding(crate::specs::Ends::started_of))]
 pub fn start(writing: bool, d: Device) -> Device
     ensures { result ≡ started_of writing d }
 {
-    let control = d.control;
-    let c = address::unpend(control);
-    let mut next = d;
-    next.control = c;
-    if writing {
-        let t = address::rest(Phase::Silent);
-        next.talk = t;
-        return next;
+    let phase = if writing { Phase::Silent } else { Phase::Slave };
+    Device {
+        talk: address::rest(phase),
+        control: address::unpend(d.control),
+        ..d
     }
-    let t = address::rest(Phase::Slave);
-    next.talk = t;
-    next
 }
 
 // Whether a byte of this phase is kept for a stop to act on.
 fn keeps_for_stop(phase: Phase) -> bool
     ensures { result ≡ keeps_for_stop phase }
 {
-    match phase {
-        Phase::Data => true,
-        Phase::Register => true,
-        Phase::Idle => false,
-        Phase::Silent => false,
-        Phase::Slave => false,
-        Phase::High => false,
-        Phase::Low => false,
-        Phase::Send => false,
-        Phase::SendRegister => false,
-    }
+    matches!(phase, Phase::Data | Phase::Register)
 }
 
 // Whether a stop with so many committed bits cuts off such a byte.
@@ -64,35 +50,29 @@ pub fn cuts_off(phase: Phase, bits: u8) -> bool
 pub fn left(cut: bool, c: Control) -> Control
     ensures { result ≡ control_left cut c }
 {
-    if cut {
-        return address::unpend(c);
-    }
-    c
+    if cut { address::unpend(c) } else { c }
 }
 
 // The device after a stop that carries out an order.
+#[tactic(auto, unfolding(crate::specs::Ends::stopped_of))]
 pub fn stop(order: Order, d: Device) -> Device
     ensures { result ≡ stopped_of order d }
 {
-    let control = d.control;
-    let carried = control::carry_out(order, control);
-    let t = address::rest(Phase::Idle);
-    let c = drop_all(carried);
-    let mut next = d;
-    next.talk = t;
-    next.control = c;
-    next
+    Device {
+        talk: address::rest(Phase::Idle),
+        control: drop_all(control::carry_out(order, d.control)),
+        ..d
+    }
 }
 
-// The device while reset is active.
+// The device while reset is active: a literal like that of `stop`, for a definition of its own.
+#[tactic(auto, unfolding(crate::specs::Ends::ended_of))]
 pub fn end(d: Device) -> Device
     ensures { result ≡ ended_of d }
 {
-    let control = d.control;
-    let t = address::rest(Phase::Idle);
-    let c = drop_all(control);
-    let mut next = d;
-    next.talk = t;
-    next.control = c;
-    next
+    Device {
+        talk: address::rest(Phase::Idle),
+        control: drop_all(d.control),
+        ..d
+    }
 }

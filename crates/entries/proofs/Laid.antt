@@ -1,10 +1,10 @@
 -- Laws of entries laid over a row. Assumes nothing.
-use Prim.Native.Nat.{ℕ, ◌+◌, ◌≤◌}
-use mathlib.Core.List.{List, [], ◌∷◌, ◌++◌, map, map-append}
-use mathlib.Core.Path.{◌≡◌, refl, sym, ap, ◌∙◌}
+use Prim.Native.Nat.{ℕ, ◌+◌}
+use mathlib.Core.List.{List, ◌++◌, map, map-append}
+use mathlib.Core.Path.{◌≡◌, sym, ap, ◌∙◌}
 use native.Mathlib.Omega.{arith}
-use lib.ListN.{length, set, length-append, length-map}
-use lib.Seq.{sets, set_out}
+use lib.ListN.{length, length-append, length-map}
+use lib.Seq.{sets}
 use Rattle.ground.proofs.Rows.{sets-append}
 use Rattle.entries.specs.Entries.{Placed, placed_at, number_of, laid_from, Says}
 use Rattle.entries.specs.declared.Entry.{Entry}
@@ -15,18 +15,6 @@ pub laid-append : (xs ys : List Placed) (row : List ℕ) (at next : ℕ) → nex
 laid-append xs ys row at next e =
     sets-append (map number_of xs) (map number_of ys) row at next (e ∙ ap (λ (n : ℕ). at + n) (sym (length-map xs number_of)))
     ∙ ap (λ (vs : List ℕ). sets row at vs) (sym (map-append _ xs ys))
-
--- Nothing is said.
-pub says_none : (place at : ℕ) (row : List ℕ) → Says 1 place [] at row at row
-says_none place at row = record { laid = refl; next = omega arith; few = omega arith }
-
--- One entry is said, with room for it or without.
-module _ (place : ℕ) (x : Entry) (at told : ℕ) (row : List ℕ) (e : told ≡ number_of (record { place = place; entry = x })) where
-  pub says-inside : Says 1 place (x ∷ []) at row (at + 1) (set row at told)
-  says-inside = record { laid = ap (λ (n : ℕ). set row at n) e; next = refl; few = omega arith }
-
-  pub says-outside : length row ≤ at → Says 1 place (x ∷ []) at row (at + 1) row
-  says-outside h = record { laid = sym (set_out row at _ h); next = refl; few = omega arith }
 
 -- What is said in two steps is said in one.
 pub says_both : (m n place : ℕ) (xs ys : List Entry) (at mid r : ℕ) (row row₁ row₂ : List ℕ)

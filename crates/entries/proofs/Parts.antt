@@ -3,6 +3,7 @@ use Prim.Native.Nat.{ℕ, ◌+◌, ◌*◌, ◌/◌, ◌%◌, ◌<◌}
 use mathlib.Core.Path.{◌≡◌}
 use native.Mathlib.Omega.{arith}
 use Rattle.ground.specs.Numbers.{byte_values}
+use Rattle.std.specs.Prelude.{Some}
 use Rattle.withheld.specs.declared.Why.TheVariants.{PageLocked}
 use Rattle.withheld.proofs.Pages.{Narrow}
 use Rattle.entries.specs.Entries.{reason_note, pages_told, packed_of, tag_unit, note_unit, pages_unit, place_unit, places_told}
@@ -29,5 +30,5 @@ pub record Lock (note pages code first last : ℕ) : Type 0 where
 
 -- The lock that a part of any kind tells (withheld/proofs/Pages, narrow-told) is read as it was told.
 pub lock-back : (code first last : ℕ) → Narrow code first last
-    → Lock (reason_note (PageLocked code first last)) (pages_told (PageLocked code first last)) code first last
+    → Lock (reason_note (Some (PageLocked code first last))) (pages_told (Some (PageLocked code first last))) code first last
 lock-back code first last n = record { coded = omega arith; begins = omega arith; ends = omega arith }

@@ -1,30 +1,28 @@
 -- What can be said of a sample, entry by entry, and entries as numbers in a row (document 01, State and time; Bytes on the wire; request
 -- 2026-02). Parts that keep to their bits are read back from a number as they were (proofs/Parts), and those of an accepted capture and of a
 -- part on our bench do (withheld/proofs/Pages, narrow-told); of a byte that is not heard it does not tell idle from silent.
-use Rattle.std.specs.Prelude.{ℕ, ◌+◌, ◌*◌, ◌%◌, ◌≤◌, Bool, true, false, List, [], ◌∷◌, map, ◌≡◌, length}
+use Rattle.std.specs.Prelude.{ℕ, ◌+◌, ◌*◌, ◌%◌, ◌≤◌, Bool, true, false, List, [], ◌∷◌, map, ◌≡◌, length, Option, Some, None}
 use Rattle.std.proofs.lemmas.List.Edits.{sets}
 use Rattle.ground.specs.Cases.{or_zero}
 use Rattle.ground.specs.Numbers.{byte_values}
 use Rattle.part.specs.declared.state.Phase.{Phase}
 use Rattle.part.specs.declared.state.Phase.TheVariants.{Idle, Silent, Slave, High, Low, Data, Register, Send, SendRegister}
 use Rattle.withheld.specs.declared.Why.{Why}
-use Rattle.withheld.specs.declared.Why.TheVariants.{NotWithheld, WelLow, PageLocked, SecondByte}
-use Rattle.entries.specs.declared.Told.{Told}
-use Rattle.entries.specs.declared.Told.TheVariants.{Nothing, One}
+use Rattle.withheld.specs.declared.Why.TheVariants.{WelLow, PageLocked, SecondByte}
 use Rattle.entries.specs.declared.Entry.{Entry}
 use Rattle.entries.specs.declared.Entry.TheVariants.{Start, Stop, Byte, Ninth, CycleBegins, CycleEnds, ResetBegins, ResetEnds}
 
 -- What is said where something began or ended, by whether it was and is (State and time, 1 and 2; Bytes on the wire, stop).
-abbrev pub edge_by : Bool → Bool → Entry → Entry → Told
-edge_by true true begins ends = Nothing
-edge_by true false begins ends = One ends
-edge_by false true begins ends = One begins
-edge_by false false begins ends = Nothing
+abbrev pub edge_by : Bool → Bool → Entry → Entry → Option Entry
+edge_by true true begins ends = None
+edge_by true false begins ends = Some ends
+edge_by false true begins ends = Some begins
+edge_by false false begins ends = None
 
 -- What is said as a list: nothing, or one entry.
-abbrev pub told_of : Told → List Entry
-told_of Nothing = []
-told_of (One x) = x ∷ []
+abbrev pub told_of : Option Entry → List Entry
+told_of None = []
+told_of (Some x) = x ∷ []
 
 -- An entry with the place of its sample (Refusal numbers, place: sample).
 pub record Placed : Type 0 where
@@ -70,18 +68,18 @@ entry_value ResetBegins = 0
 entry_value ResetEnds = 0
 
 -- A reason as a number, a locked page with its block code, which is below 8 (Control register, BP2 BP1 BP0).
-abbrev pub reason_note : Why → ℕ
-reason_note NotWithheld = 0
-reason_note WelLow = 1
-reason_note SecondByte = 2
-reason_note (PageLocked code first last) = 8 + code % 8
+abbrev pub reason_note : Option Why → ℕ
+reason_note None = 0
+reason_note (Some WelLow) = 1
+reason_note (Some SecondByte) = 2
+reason_note (Some (PageLocked code first last)) = 8 + code % 8
 
 -- The pages that a reason tells, the first lowest; no part has more than 256 (The part on our bench; request 2026-01).
-abbrev pub pages_told : Why → ℕ
-pages_told NotWithheld = 0
-pages_told WelLow = 0
-pages_told SecondByte = 0
-pages_told (PageLocked code first last) = last % byte_values * byte_values + first % byte_values
+abbrev pub pages_told : Option Why → ℕ
+pages_told None = 0
+pages_told (Some WelLow) = 0
+pages_told (Some SecondByte) = 0
+pages_told (Some (PageLocked code first last)) = last % byte_values * byte_values + first % byte_values
 
 -- What else a stop or a byte says: that it cuts a byte off, drops a load, drops a register byte (1, 2 and 4); why no acknowledge comes.
 abbrev pub note_of : Entry → ℕ

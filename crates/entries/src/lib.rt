@@ -26,7 +26,7 @@ pub enum Entry {
         load: bool,
         register: bool,
     },
-    Byte(Phase, u8, Why),
+    Byte(Phase, u8, Option<Why>),
     Ninth {
         line: bool,
         own: bool,
@@ -37,14 +37,7 @@ pub enum Entry {
     ResetEnds,
 }
 
-// An entry, or nothing to say.
-#[derive(Clone, Copy)]
-pub enum Told {
-    Nothing,
-    One(Entry),
-}
-
-// The role of a byte by the phase that it met.
+// The role of a byte by the phase that it met. No `From` here and below: neither side is this crate's type.
 fn role(phase: Phase) -> u8
     ensures { result ≡ role_of phase }
 {
@@ -56,41 +49,30 @@ fn role(phase: Phase) -> u8
         Phase::Register => tags::REGISTER,
         Phase::Send => tags::SENT,
         Phase::SendRegister => tags::REGISTER_SENT,
-        Phase::Idle => tags::UNHEARD,
-        Phase::Silent => tags::UNHEARD,
+        Phase::Idle | Phase::Silent => tags::UNHEARD,
     }
 }
 
 // A reason as a note. A block code is below 8, so that nothing of it is lost.
-fn reason_note(why: Why) -> u8
+fn reason_note(why: Option<Why>) -> u8
     ensures { result ≡ reason_note why }
 {
     match why {
-        Why::NotWithheld => tags::NO_REASON,
-        Why::WelLow => tags::WEL_LOW,
-        Why::SecondByte => tags::SECOND_BYTE,
-        Why::PageLocked {
-            code,
-            first: _,
-            last: _,
-        } => tags::LOCKED + code % 8,
+        None => tags::NO_REASON,
+        Some(Why::WelLow) => tags::WEL_LOW,
+        Some(Why::SecondByte) => tags::SECOND_BYTE,
+        Some(Why::PageLocked { code, .. }) => tags::LOCKED + code % 8,
     }
 }
 
 // The pages that a reason tells, the first lowest. No part has more than 256, so that nothing of them
 // is lost (withheld/proofs/Pages, narrow-told).
-fn pages_told(why: Why) -> u16
+fn pages_told(why: Option<Why>) -> u16
     ensures { result ≡ pages_told why }
 {
     match why {
-        Why::NotWithheld => 0,
-        Why::WelLow => 0,
-        Why::SecondByte => 0,
-        Why::PageLocked {
-            code: _,
-            first,
-            last,
-        } => last % 256 * 256 + first % 256,
+        Some(Why::PageLocked { first, last, .. }) => last % 256 * 256 + first % 256,
+        Some(Why::WelLow | Why::SecondByte) | None => 0,
     }
 }
 
@@ -101,13 +83,14 @@ fn packed(place: usize, pages: u16, note: u8, tag: u8, value: u8) -> u64
 {
     let at = (place % tags::PLACES) as u64;
     at * tags::PLACE
-        + (pages as u64) * tags::PAGES
-        + (note as u64) * tags::NOTE
-        + (tag as u64) * tags::TAG
-        + (value as u64)
+        + u64::from(pages) * tags::PAGES
+        + u64::from(note) * tags::NOTE
+        + u64::from(tag) * tags::TAG
+        + u64::from(value)
 }
 
-// An entry and its place as one number.
+// An entry and its place as one number: a row of these is what `transfers::list` is documented to lay.
+#[tactic(auto, unfolding(crate::specs::Entries::number_of))]
 fn number_of(place: usize, entry: Entry) -> u64
     ensures { result ≡ number_of (record { place = place; entry = entry }) }
 {
@@ -149,33 +132,26 @@ fn number_of(place: usize, entry: Entry) -> u64
 }
 
 // What is said where something began or ended, by whether it was and is.
-pub fn edge(was: bool, is: bool, begins: Entry, ends: Entry) -> Told
+pub fn edge(was: bool, is: bool, begins: Entry, ends: Entry) -> Option<Entry>
     ensures { result ≡ edge_by was is begins ends }
 {
-    if was {
-        if is {
-            return Told::Nothing;
-        }
-        return Told::One(ends);
+    match (was, is) {
+        (false, true) => Some(begins),
+        (true, false) => Some(ends),
+        _ => None,
     }
-    if is {
-        return Told::One(begins);
-    }
-    Told::Nothing
 }
 
 // Lays what is said over the row at a place, if there is room, and answers the place after it.
-pub fn put(told: Told, place: usize, entries: &mut [u64], at: usize) -> usize
+pub fn put(told: Option<Entry>, place: usize, entries: &mut [u64], at: usize) -> usize
     requires { at < 18446744073709551615 }
     ensures { Says 1 place (told_of told) at entries.old result entries.new }
 {
-    let Told::One(entry) = told else {
+    let Some(entry) = told else {
         return at;
     };
-    let number = number_of(place, entry);
     if at < entries.len() {
-        entries[at] = number;
-        return at + 1;
+        entries[at] = number_of(place, entry);
     }
     at + 1
 }

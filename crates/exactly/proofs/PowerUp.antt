@@ -6,18 +6,17 @@ use mathlib.Core.Logic.{◌↔◌}
 use mathlib.Core.Path.{◌≡◌, refl, ap, sym, subst, ◌∙◌}
 use native.Mathlib.Omega.{arith}
 use lib.Dec.{leb}
+use Rattle.std.specs.Prelude.{Option, Some, None}
 use Rattle.ground.specs.Kind.{kind_of, known}
 use Rattle.ground.specs.Size.{size_meant, size_by, SizesPart}
 use Rattle.ground.specs.Verdict.{Verdict, accepted, refused}
-use Rattle.ground.specs.declared.kinds.Size.{Size}
-use Rattle.ground.specs.declared.kinds.Size.TheVariants.{Bytes, Unknown}
 use Rattle.ground.proofs.Verdicts.{apart}
 use Rattle.refusals.specs.Refusals.{storable, power_by, power_of}
 use Rattle.exactly.specs.Words.{KnownPart, SizeOf, LatchBit}
 use Rattle.exactly.specs.PowerUp.{PowerUp}
 use Rattle.exactly.proofs.Decides.{holds, fails, decides-le}
 use Rattle.exactly.proofs.Words.{known-size, size-known, size_is, decides-part, decides-stored}
-use Rattle.exactly.proofs.Steps.{step, Above, above-accepted, above_step, most-accepted, most_step, stop, stopped, past, passed, through, says-refused, says-accepted}
+use Rattle.exactly.proofs.Steps.{step, Above, above-accepted, above_step, most-accepted, most_step, stop, stopped, past, passed, through, says}
 
 -- The table is three tests, one after the other.
 steps : (a b c : Bool) → power_by a b c ≡ step a 1 (step b 2 (step c 3 (accepted 0)))
@@ -100,26 +99,26 @@ module _ (part select stored : ℕ) where
       )
 
 -- The size of a part.
-size_none : (part : ℕ) (r : Size) → SizesPart part r → (r ≡ Unknown) ↔ (¬ KnownPart part)
+size_none : (part : ℕ) (r : Option ℕ) → SizesPart part r → (r ≡ None) ↔ (¬ KnownPart part)
 unfolding size_meant
 size_none part r x = (forth r x.said, back r x.said)
   where
-    forth : (q : Size) → size_meant q ≡ size_by (known part) (kind_of part).size → q ≡ Unknown → ¬ KnownPart part
+    forth : (q : Option ℕ) → size_meant q ≡ size_by (known part) (kind_of part).size → q ≡ None → ¬ KnownPart part
     forth q s e k =
-        let u : size_meant Unknown ≡ accepted (kind_of part).size = ap size_meant (sym e) ∙ s ∙ rw (holds (decides-part part) k) in
+        let u : size_meant None ≡ accepted (kind_of part).size = ap size_meant (sym e) ∙ s ∙ rw (holds (decides-part part) k) in
         apart 1 0 (kind_of part).size u
 
-    back : (q : Size) → size_meant q ≡ size_by (known part) (kind_of part).size → ¬ KnownPart part → q ≡ Unknown
-    back (Bytes n) s h =
+    back : (q : Option ℕ) → size_meant q ≡ size_by (known part) (kind_of part).size → ¬ KnownPart part → q ≡ None
+    back (Some n) s h =
         let u : accepted n ≡ refused 1 0 = s ∙ rw (fails (decides-part part) h) in
         absurd (apart 1 0 n (sym u))
-    back Unknown s h = refl
+    back None s h = refl
 
-size-some : (part n : ℕ) (r : Size) → SizesPart part r → (r ≡ Bytes n) ↔ SizeOf part n
+size-some : (part n : ℕ) (r : Option ℕ) → SizesPart part r → (r ≡ Some n) ↔ SizeOf part n
 unfolding size_meant
 size-some part n r x = (λ e. forth r x.said e (known part) refl, λ h. back r x.said (size_is part n h) (size-known part n h))
   where
-    forth : (q : Size) → size_meant q ≡ size_by (known part) (kind_of part).size → q ≡ Bytes n → (b : Bool) → known part ≡ b
+    forth : (q : Option ℕ) → size_meant q ≡ size_by (known part) (kind_of part).size → q ≡ Some n → (b : Bool) → known part ≡ b
         → SizeOf part n
     forth q s e true k =
         let p = (decides-part part).yes k in
@@ -130,12 +129,12 @@ size-some part n r x = (λ e. forth r x.said e (known part) refl, λ h. back r x
         let u : accepted n ≡ refused 1 0 = ap size_meant (sym e) ∙ s ∙ rw k in
         absurd (apart 1 0 n (sym u))
 
-    back : (q : Size) → size_meant q ≡ size_by (known part) (kind_of part).size → n ≡ (kind_of part).size → KnownPart part → q ≡ Bytes n
-    back (Bytes m) s h k =
+    back : (q : Option ℕ) → size_meant q ≡ size_by (known part) (kind_of part).size → n ≡ (kind_of part).size → KnownPart part → q ≡ Some n
+    back (Some m) s h k =
         let u : accepted m ≡ accepted (kind_of part).size = s ∙ rw (holds (decides-part part) k) in
         let v : m ≡ (kind_of part).size = cc in
-        ap Bytes (v ∙ sym h)
-    back Unknown s h k =
+        ap Some (v ∙ sym h)
+    back None s h k =
         let u : refused 1 0 ≡ accepted (kind_of part).size = s ∙ rw (holds (decides-part part) k) in
         absurd (apart 1 0 (kind_of part).size u)
 
@@ -143,11 +142,11 @@ size-some part n r x = (λ e. forth r x.said e (known part) refl, λ h. back r x
 pub power-up : PowerUp
 power-up =
     record {
-      one = λ part select stored p r x. Iff.trans (says-refused r.reply _ 1 p x.reply) (one part select stored p);
-      two = λ part select stored p r x. Iff.trans (says-refused r.reply _ 2 p x.reply) (two part select stored p);
-      three = λ part select stored p r x. Iff.trans (says-refused r.reply _ 3 p x.reply) (three part select stored p);
-      accepted = λ part select stored n r x. Iff.trans (says-accepted r.reply _ n x.reply) (taken part select stored n);
-      no_other = λ part select stored k p r x e. no_other part select stored k p ((says-refused r.reply _ k p x.reply).0 e);
+      one = λ part select stored p r x. Iff.trans (says r.reply _ (refused 1 p) x.reply) (one part select stored p);
+      two = λ part select stored p r x. Iff.trans (says r.reply _ (refused 2 p) x.reply) (two part select stored p);
+      three = λ part select stored p r x. Iff.trans (says r.reply _ (refused 3 p) x.reply) (three part select stored p);
+      accepted = λ part select stored n r x. Iff.trans (says r.reply _ (accepted n) x.reply) (taken part select stored n);
+      no_other = λ part select stored k p r x e. no_other part select stored k p ((says r.reply _ (refused k p) x.reply).0 e);
       size-one = size_none;
       size-else = size-some;
     }

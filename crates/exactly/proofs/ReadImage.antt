@@ -20,7 +20,7 @@ use Rattle.exactly.specs.Faults.{FirstAt, EndAt}
 use Rattle.exactly.specs.ReadImage.{TextFits, ReadImage}
 use Rattle.exactly.proofs.Decides.{holds, fails, decides-le}
 use Rattle.exactly.proofs.Words.{one-kind, size_is}
-use Rattle.exactly.proofs.Steps.{step, Above, above_step, stop, stopped, past, passed, through, says-refused, says-accepted}
+use Rattle.exactly.proofs.Steps.{step, Above, above_step, stop, stopped, past, passed, through, says}
 use Rattle.exactly.proofs.PartFirst.{past-size, through-size, to-rest, one, five}
 use Rattle.exactly.proofs.ReadLines.{lines, twelve, thirteen, fourteen, fifteen, sixteen, seventeen, eighteen, whole-text, line-numbers, verdict-bad}
 
@@ -151,23 +151,23 @@ pub read-image : ReadImage
 read-image =
     record {
       one = λ part text array p r array' x.
-          Iff.trans (says-refused r _ 1 p x.reply) (one part (length array) _ _ (by-steps part text array) (above-five part text array) p);
+          Iff.trans (says r _ (refused 1 p) x.reply) (one part (length array) _ _ (by-steps part text array) (above-five part text array) p);
       five = λ part text array p r array' x.
-          Iff.trans (says-refused r _ 5 p x.reply) (five part (length array) _ _ (by-steps part text array) (above-five part text array) p);
-      eleven = λ part text array p r array' x. Iff.trans (says-refused r _ 11 p x.reply) (eleven part text array p);
+          Iff.trans (says r _ (refused 5 p) x.reply) (five part (length array) _ _ (by-steps part text array) (above-five part text array) p);
+      eleven = λ part text array p r array' x. Iff.trans (says r _ (refused 11 p) x.reply) (eleven part text array p);
       twelve = λ part text array p r array' x.
-          Iff.trans (says-refused r _ 12 p x.reply) (by_lines part text array 12 p (omega arith) (twelve (length array) text p));
+          Iff.trans (says r _ (refused 12 p) x.reply) (by_lines part text array 12 p (omega arith) (twelve (length array) text p));
       thirteen = λ part text array p r array' x.
-          Iff.trans (says-refused r _ 13 p x.reply) (by_lines part text array 13 p (omega arith) (thirteen (length array) text p));
+          Iff.trans (says r _ (refused 13 p) x.reply) (by_lines part text array 13 p (omega arith) (thirteen (length array) text p));
       fourteen = λ part text array p r array' x.
-          Iff.trans (says-refused r _ 14 p x.reply) (by_lines part text array 14 p (omega arith) (fourteen (length array) text p));
-      fifteen = λ part text array p r array' x. Iff.trans (says-refused r _ 15 p x.reply) (beyond-part part text array p);
+          Iff.trans (says r _ (refused 14 p) x.reply) (by_lines part text array 14 p (omega arith) (fourteen (length array) text p));
+      fifteen = λ part text array p r array' x. Iff.trans (says r _ (refused 15 p) x.reply) (beyond-part part text array p);
       sixteen = λ part text array p r array' x.
-          Iff.trans (says-refused r _ 16 p x.reply) (by_lines part text array 16 p (omega arith) (sixteen (length array) text p));
+          Iff.trans (says r _ (refused 16 p) x.reply) (by_lines part text array 16 p (omega arith) (sixteen (length array) text p));
       seventeen = λ part text array p r array' x.
-          Iff.trans (says-refused r _ 17 p x.reply) (by_lines part text array 17 p (omega arith) (seventeen (length array) text p));
+          Iff.trans (says r _ (refused 17 p) x.reply) (by_lines part text array 17 p (omega arith) (seventeen (length array) text p));
       eighteen = λ part text array p r array' x.
-          Iff.trans (says-refused r _ 18 p x.reply) (by_lines part text array 18 p (omega arith) (eighteen (length array) text p));
-      accepted = λ part text array n r array' x. Iff.trans (says-accepted r _ n x.reply) (taken-text part text array n);
-      no_other = λ part text array k p r array' x e. no_other part text array k p ((says-refused r _ k p x.reply).0 e);
+          Iff.trans (says r _ (refused 18 p) x.reply) (by_lines part text array 18 p (omega arith) (eighteen (length array) text p));
+      accepted = λ part text array n r array' x. Iff.trans (says r _ (accepted n) x.reply) (taken-text part text array n);
+      no_other = λ part text array k p r array' x e. no_other part text array k p ((says r _ (refused k p) x.reply).0 e);
     }

@@ -18,7 +18,7 @@ use Rattle.exactly.specs.Words.{SizeOf, WithinRanges}
 use Rattle.exactly.specs.Replay.{RowsFit, GoodBefore, Replay}
 use Rattle.exactly.proofs.Decides.{Decides, holds, fails, decides-le, decides_eq}
 use Rattle.exactly.proofs.Words.{decides-size, decides-state}
-use Rattle.exactly.proofs.Steps.{step, Above, Most, above_step, most_step, stop, stopped, past, passed, through, says-refused, says-accepted}
+use Rattle.exactly.proofs.Steps.{step, Above, Most, above_step, most_step, stop, stopped, past, passed, through, says}
 use Rattle.exactly.proofs.Samples.{Told, good, long, high, told, nine-back, ten-back, good-back}
 
 -- The table is five tests, one after the other, and then the samples.
@@ -283,13 +283,13 @@ module _ (s : State) (es ls array row : List ℕ) where
 pub replay : Replay
 replay =
     record {
-      four = λ s es ls array row p r array' row' x. Iff.trans (says-refused r.reply _ 4 p x.reply) (four s es ls array row p);
-      five = λ s es ls array row p r array' row' x. Iff.trans (says-refused r.reply _ 5 p x.reply) (five s es ls array row p);
-      six = λ s es ls array row p r array' row' x. Iff.trans (says-refused r.reply _ 6 p x.reply) (six s es ls array row p);
-      seven = λ s es ls array row p r array' row' x. Iff.trans (says-refused r.reply _ 7 p x.reply) (seven s es ls array row p);
-      eight = λ s es ls array row p r array' row' x. Iff.trans (says-refused r.reply _ 8 p x.reply) (eight s es ls array row p);
-      nine = λ s es ls array row p r array' row' x. Iff.trans (says-refused r.reply _ 9 p x.reply) (nine s es ls array row p);
-      ten = λ s es ls array row p r array' row' x. Iff.trans (says-refused r.reply _ 10 p x.reply) (ten s es ls array row p);
-      accepted = λ s es ls array row n r array' row' x. Iff.trans (says-accepted r.reply _ n x.reply) (taken s es ls array row n);
-      no_other = λ s es ls array row k p r array' row' x e. no_other s es ls array row k p ((says-refused r.reply _ k p x.reply).0 e);
+      four = λ s es ls array row p r array' row' x. Iff.trans (says r.reply _ (refused 4 p) x.reply) (four s es ls array row p);
+      five = λ s es ls array row p r array' row' x. Iff.trans (says r.reply _ (refused 5 p) x.reply) (five s es ls array row p);
+      six = λ s es ls array row p r array' row' x. Iff.trans (says r.reply _ (refused 6 p) x.reply) (six s es ls array row p);
+      seven = λ s es ls array row p r array' row' x. Iff.trans (says r.reply _ (refused 7 p) x.reply) (seven s es ls array row p);
+      eight = λ s es ls array row p r array' row' x. Iff.trans (says r.reply _ (refused 8 p) x.reply) (eight s es ls array row p);
+      nine = λ s es ls array row p r array' row' x. Iff.trans (says r.reply _ (refused 9 p) x.reply) (nine s es ls array row p);
+      ten = λ s es ls array row p r array' row' x. Iff.trans (says r.reply _ (refused 10 p) x.reply) (ten s es ls array row p);
+      accepted = λ s es ls array row n r array' row' x. Iff.trans (says r.reply _ (accepted n) x.reply) (taken s es ls array row n);
+      no_other = λ s es ls array row k p r array' row' x e. no_other s es ls array row k p ((says r.reply _ (refused k p) x.reply).0 e);
     }

@@ -4,10 +4,10 @@ use mathlib.Core.Bool.{Bool, true, false}
 use mathlib.Core.Logic.{◌↔◌}
 use mathlib.Core.Path.{◌≡◌, refl, sym, ◌∙◌}
 use native.Mathlib.Omega.{arith}
+use Rattle.std.specs.Prelude.{Result}
 use Rattle.ground.specs.Verdict.{Verdict, accepted, refused, meant}
-use Rattle.ground.specs.declared.Reply.{Reply}
-use Rattle.ground.specs.declared.Reply.TheVariants.{Accepted, Refused}
-use Rattle.ground.proofs.Verdicts.{is-accepted, is-refused, apart}
+use Rattle.ground.specs.declared.Refusal.{Refusal}
+use Rattle.ground.proofs.Verdicts.{apart}
 
 -- A test before a verdict: failed, it is refused with a number.
 abbrev pub step : Bool → ℕ → Verdict → Verdict
@@ -56,19 +56,6 @@ pub through : (b : Bool) (m n : ℕ) (v : Verdict) → step b m v ≡ accepted n
 through true m n v e = (refl, e)
 through false m n v e = absurd (apart m 0 n e)
 
--- A reply in the code's words and in the paper's.
-pub refused-back : (r : Reply) (k p : ℕ) → meant r ≡ refused k p → r ≡ Refused k p
-unfolding meant
-refused-back (Accepted n) k p e = absurd (apart k p n (sym e))
-refused-back (Refused j q) k p e = cc
-
-pub accepted-back : (r : Reply) (n : ℕ) → meant r ≡ accepted n → r ≡ Accepted n
-unfolding meant
-accepted-back (Accepted m) n e = cc
-accepted-back (Refused j q) n e = absurd (apart j q n e)
-
-pub says-refused : (r : Reply) (v : Verdict) (k p : ℕ) → meant r ≡ v → (r ≡ Refused k p) ↔ (v ≡ refused k p)
-says-refused r v k p e = (is-refused r v k p e, λ h. refused-back r k p (e ∙ h))
-
-pub says-accepted : (r : Reply) (v : Verdict) (n : ℕ) → meant r ≡ v → (r ≡ Accepted n) ↔ (v ≡ accepted n)
-says-accepted r v n e = (is-accepted r v n e, λ h. accepted-back r n (e ∙ h))
+-- What a reply says is what the verdict says that it carries.
+pub says : (r : Result ℕ Refusal) (v w : Verdict) → meant r ≡ v → (meant r ≡ w) ↔ (v ≡ w)
+says r v w e = (λ h. sym e ∙ h, λ h. e ∙ h)

@@ -13,14 +13,14 @@ use Rattle.ground.specs.Verdict.{Verdict, accepted, refused}
 use Rattle.ground.proofs.Verdicts.{apart}
 use Rattle.forms.specs.Writing.{image_text, lines_length, length_of, most_length}
 use Rattle.forms.proofs.Lengths.{length-image}
-use Rattle.formats.proofs.Named.{intel-measured}
+use Rattle.formats.specs.Measured.{intel-measured}
 use Rattle.intel.specs.Intel.{intel}
 use Rattle.image.specs.Promises.{sized, write_by, write_verdict}
 use Rattle.exactly.specs.Words.{SmallPart, LargePart, KnownPart, ByPart, SizeOf}
 use Rattle.exactly.specs.WriteImage.{WriteImage}
 use Rattle.exactly.proofs.Decides.{holds, fails, decides-le}
 use Rattle.exactly.proofs.Words.{small_size_lem, large-size, size-known}
-use Rattle.exactly.proofs.Steps.{step, Above, above-accepted, above_step, stop, stopped, passed, through, says-refused, says-accepted}
+use Rattle.exactly.proofs.Steps.{step, Above, above-accepted, above_step, stop, stopped, passed, through, says}
 use Rattle.exactly.proofs.PartFirst.{past-size, through-size, to-rest, one, five}
 
 steps : (a b c : Bool) (n : ℕ) → write_by a b c n ≡ step a 1 (step b 5 (step c 19 (accepted n)))
@@ -117,10 +117,10 @@ pub write-image : WriteImage
 write-image =
     record {
       one = λ part array out p r out' x.
-          Iff.trans (says-refused r _ 1 p x.reply) (one part (length array) _ _ (by-steps part array out) (above-five part array out) p);
+          Iff.trans (says r _ (refused 1 p) x.reply) (one part (length array) _ _ (by-steps part array out) (above-five part array out) p);
       five = λ part array out p r out' x.
-          Iff.trans (says-refused r _ 5 p x.reply) (five part (length array) _ _ (by-steps part array out) (above-five part array out) p);
-      nineteen = λ part array out p r out' x. Iff.trans (says-refused r _ 19 p x.reply) (nineteen part array out p);
-      accepted = λ part array out n r out' x. Iff.trans (says-accepted r _ n x.reply) (taken part array out n);
-      no_other = λ part array out k p r out' x e. no_other part array out k p ((says-refused r _ k p x.reply).0 e);
+          Iff.trans (says r _ (refused 5 p) x.reply) (five part (length array) _ _ (by-steps part array out) (above-five part array out) p);
+      nineteen = λ part array out p r out' x. Iff.trans (says r _ (refused 19 p) x.reply) (nineteen part array out p);
+      accepted = λ part array out n r out' x. Iff.trans (says r _ (accepted n) x.reply) (taken part array out n);
+      no_other = λ part array out k p r out' x e. no_other part array out k p ((says r _ (refused k p) x.reply).0 e);
     }

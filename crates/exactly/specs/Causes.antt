@@ -1,15 +1,14 @@
 -- For a person from the line: nothing is turned away that the table of refusals lets through.
 -- No refusal without cause: where an outcome that keeps an operation's contract says a refusal, the table has it. What an operation does
 -- where the table has a refusal, Demand1 says (document 01, Refusal numbers, given exactly when; Leaving no slack, refuses everything).
-use Rattle.std.specs.Prelude.{ℕ, false, List, [], ◌∷◌, ◌⊎◌, ◌≡◌, take}
+use Rattle.std.specs.Prelude.{ℕ, false, List, [], ◌∷◌, ◌⊎◌, ◌≡◌, take, Result, Option}
 use Rattle.ground.specs.Kind.{known}
 use Rattle.ground.specs.Size.{size_meant, SizesPart}
 use Rattle.ground.specs.Verdict.{accepted, refused, meant}
-use Rattle.ground.specs.declared.Reply.{Reply}
-use Rattle.ground.specs.declared.kinds.Size.{Size}
+use Rattle.ground.specs.declared.Refusal.{Refusal}
 use Rattle.part.specs.declared.state.State.{State}
 use Rattle.refusals.specs.Refusals.{power_of, judged_of, capture_of}
-use Rattle.transfers.specs.declared.Listed.{Listed}
+use Rattle.transfers.specs.Promises.{Listed}
 use Rattle.transfers.specs.Promises.{Lists}
 use Rattle.power.specs.declared.Replayed.{Replayed}
 use Rattle.power.specs.Power.{powered_up}
@@ -32,11 +31,11 @@ pub record NoRefusalWithoutCause : Type 0 where
       → Replays s es ls array row r array' row' → meant r.reply ≡ refused k p → judged_of s es ls array row ≡ refused k p
   pub list : (s : State) (es ls array row : List ℕ) (r : Listed) (array' row' : List ℕ) (k p : ℕ)
       → Lists s es ls array row r array' row' → meant r.reply ≡ refused k p → capture_of s es ls array ≡ refused k p
-  pub size : (part : ℕ) (r : Size) (k p : ℕ) → SizesPart part r → size_meant r ≡ refused k p
+  pub size : (part : ℕ) (r : Option ℕ) (k p : ℕ) → SizesPart part r → size_meant r ≡ refused k p
       → (known part ≡ false) × (k ≡ 1) × (p ≡ 0)
-  pub read-image : (part : ℕ) (text array : List ℕ) (r : Reply) (array' : List ℕ) (k p : ℕ)
+  pub read-image : (part : ℕ) (text array : List ℕ) (r : Result ℕ Refusal) (array' : List ℕ) (k p : ℕ)
       → ReadsImage intel part text array r array' → meant r ≡ refused k p → image_of intel part text array ≡ bad k p
-  pub write-image : (part : ℕ) (array out : List ℕ) (r : Reply) (out' : List ℕ) (k p : ℕ)
+  pub write-image : (part : ℕ) (array out : List ℕ) (r : Result ℕ Refusal) (out' : List ℕ) (k p : ℕ)
       → WritesImage intel part array out r out' → meant r ≡ refused k p → write_verdict intel part array out ≡ refused k p
   -- the program writes a refusal's line only where the table has that refusal
   pub tidy : (part : ℕ) (text out : List ℕ) (r : ℕ) (out' : List ℕ) (k p : ℕ)

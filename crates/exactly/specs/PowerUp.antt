@@ -1,10 +1,8 @@
 -- Power-up: for each of its refusal numbers, exactly when an outcome that keeps the contract replies it, and at which place; and that it
 -- replies no other (document 01, Refusal numbers, 1 to 3).
-use Rattle.std.specs.Prelude.{ℕ, ◌≤◌, ◌<◌, ◌↔◌, ◌≡◌}
+use Rattle.std.specs.Prelude.{ℕ, ◌≤◌, ◌<◌, ◌↔◌, ◌≡◌, Option, Some, None}
 use Rattle.ground.specs.Size.{SizesPart}
-use Rattle.ground.specs.declared.Reply.TheVariants.{Accepted, Refused}
-use Rattle.ground.specs.declared.kinds.Size.{Size}
-use Rattle.ground.specs.declared.kinds.Size.TheVariants.{Bytes, Unknown}
+use Rattle.ground.specs.Verdict.{accepted, refused, meant}
 use Rattle.power.specs.Promises.{PowersUp}
 use Rattle.power.specs.declared.Replayed.{Replayed}
 use Rattle.exactly.specs.Words.{KnownPart, SizeOf, LatchBit}
@@ -13,19 +11,19 @@ use Rattle.exactly.specs.Words.{KnownPart, SizeOf, LatchBit}
 pub record PowerUp : Type 0 where
   -- part is not 4323, 4325, 4283 or 4285
   pub one : (part select stored p : ℕ) (r : Replayed) → PowersUp part select stored r
-      → (r.reply ≡ Refused 1 p) ↔ ((p ≡ 0) × ¬ KnownPart part)
+      → (meant r.reply ≡ refused 1 p) ↔ ((p ≡ 0) × ¬ KnownPart part)
   -- device select over 3
   pub two : (part select stored p : ℕ) (r : Replayed) → PowersUp part select stored r
-      → (r.reply ≡ Refused 2 p) ↔ ((p ≡ 0) × KnownPart part × (3 < select))
+      → (meant r.reply ≡ refused 2 p) ↔ ((p ≡ 0) × KnownPart part × (3 < select))
   -- stored control byte has bit 1 or 2 set
   pub three : (part select stored p : ℕ) (r : Replayed) → PowersUp part select stored r
-      → (r.reply ≡ Refused 3 p) ↔ ((p ≡ 0) × KnownPart part × (select ≤ 3) × LatchBit stored)
+      → (meant r.reply ≡ refused 3 p) ↔ ((p ≡ 0) × KnownPart part × (select ≤ 3) × LatchBit stored)
   -- otherwise it is accepted
   pub accepted : (part select stored n : ℕ) (r : Replayed) → PowersUp part select stored r
-      → (r.reply ≡ Accepted n) ↔ ((n ≡ 0) × KnownPart part × (select ≤ 3) × ¬ LatchBit stored)
+      → (meant r.reply ≡ accepted n) ↔ ((n ≡ 0) × KnownPart part × (select ≤ 3) × ¬ LatchBit stored)
   -- and no other number is given
   pub no_other : (part select stored k p : ℕ) (r : Replayed) → PowersUp part select stored r
-      → r.reply ≡ Refused k p → (1 ≤ k) × (k ≤ 3)
+      → meant r.reply ≡ refused k p → (1 ≤ k) × (k ≤ 3)
   -- the size of a part: refusal 1 by the same condition, else 4,096 or 16,384
-  pub size-one : (part : ℕ) (r : Size) → SizesPart part r → (r ≡ Unknown) ↔ (¬ KnownPart part)
-  pub size-else : (part n : ℕ) (r : Size) → SizesPart part r → (r ≡ Bytes n) ↔ SizeOf part n
+  pub size-one : (part : ℕ) (r : Option ℕ) → SizesPart part r → (r ≡ None) ↔ (¬ KnownPart part)
+  pub size-else : (part n : ℕ) (r : Option ℕ) → SizesPart part r → (r ≡ Some n) ↔ SizeOf part n

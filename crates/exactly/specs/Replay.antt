@@ -2,7 +2,7 @@
 -- replies no other (document 01, Refusal numbers, 4 to 10). A number comes after those before it; a fault in samples after 4 to 8, at the
 -- earliest sample, and there 9 before 10.
 use Rattle.std.specs.Prelude.{ℕ, ◌≤◌, ◌<◌, List, ◌↔◌, ◌≡◌, length, get_or}
-use Rattle.ground.specs.declared.Reply.TheVariants.{Accepted, Refused}
+use Rattle.ground.specs.Verdict.{accepted, refused, meant}
 use Rattle.part.specs.declared.state.State.{State}
 use Rattle.power.specs.declared.Replayed.{Replayed}
 use Rattle.twin.specs.Promises.{Replays}
@@ -24,24 +24,24 @@ GoodBefore es ls p = (j : ℕ) → j < p → (get_or es j 0 ≤ 100000) × (get_
 pub record Replay : Type 0 where
   -- a state field is outside its range
   pub four : (s : State) (es ls array row : List ℕ) (p : ℕ) (r : Replayed) (array' row' : List ℕ)
-      → Replays s es ls array row r array' row' → (r.reply ≡ Refused 4 p) ↔ ((p ≡ 0) × ¬ WithinRanges s)
+      → Replays s es ls array row r array' row' → (meant r.reply ≡ refused 4 p) ↔ ((p ≡ 0) × ¬ WithinRanges s)
   -- array length is not 4,096, or 16,384 where the state's part is a larger one
   pub five : (s : State) (es ls array row : List ℕ) (p : ℕ) (r : Replayed) (array' row' : List ℕ)
       → Replays s es ls array row r array' row'
-      → (r.reply ≡ Refused 5 p) ↔ ((p ≡ 0) × WithinRanges s × ¬ SizeOf s.chip.part (length array))
+      → (meant r.reply ≡ refused 5 p) ↔ ((p ≡ 0) × WithinRanges s × ¬ SizeOf s.chip.part (length array))
   -- time and level rows differ in length
   pub six : (s : State) (es ls array row : List ℕ) (p : ℕ) (r : Replayed) (array' row' : List ℕ)
       → Replays s es ls array row r array' row'
-      → (r.reply ≡ Refused 6 p) ↔ ((p ≡ 0) × WithinRanges s × SizeOf s.chip.part (length array) × ¬ (length es ≡ length ls))
+      → (meant r.reply ≡ refused 6 p) ↔ ((p ≡ 0) × WithinRanges s × SizeOf s.chip.part (length array) × ¬ (length es ≡ length ls))
   -- over 65,536 samples
   pub seven : (s : State) (es ls array row : List ℕ) (p : ℕ) (r : Replayed) (array' row' : List ℕ)
       → Replays s es ls array row r array' row'
-      → (r.reply ≡ Refused 7 p)
+      → (meant r.reply ≡ refused 7 p)
       ↔ ((p ≡ 0) × WithinRanges s × SizeOf s.chip.part (length array) × (length es ≡ length ls) × (65536 < length ls))
   -- answer row's length is not the level row's
   pub eight : (s : State) (es ls array row : List ℕ) (p : ℕ) (r : Replayed) (array' row' : List ℕ)
       → Replays s es ls array row r array' row'
-      → (r.reply ≡ Refused 8 p)
+      → (meant r.reply ≡ refused 8 p)
       ↔ ((p ≡ 0)
       × WithinRanges s
       × SizeOf s.chip.part (length array)
@@ -51,12 +51,12 @@ pub record Replay : Type 0 where
   -- elapsed over 100,000; place: sample
   pub nine : (s : State) (es ls array row : List ℕ) (p : ℕ) (r : Replayed) (array' row' : List ℕ)
       → Replays s es ls array row r array' row'
-      → (r.reply ≡ Refused 9 p)
+      → (meant r.reply ≡ refused 9 p)
       ↔ (RowsFit s es ls array row × (p < length ls) × GoodBefore es ls p × (100000 < get_or es p 0))
   -- level byte over 15; place: sample
   pub ten : (s : State) (es ls array row : List ℕ) (p : ℕ) (r : Replayed) (array' row' : List ℕ)
       → Replays s es ls array row r array' row'
-      → (r.reply ≡ Refused 10 p)
+      → (meant r.reply ≡ refused 10 p)
       ↔ (RowsFit s es ls array row
       × (p < length ls)
       × GoodBefore es ls p
@@ -65,7 +65,7 @@ pub record Replay : Type 0 where
   -- otherwise it is accepted, with the row length
   pub accepted : (s : State) (es ls array row : List ℕ) (n : ℕ) (r : Replayed) (array' row' : List ℕ)
       → Replays s es ls array row r array' row'
-      → (r.reply ≡ Accepted n) ↔ ((n ≡ length ls) × RowsFit s es ls array row × GoodBefore es ls (length ls))
+      → (meant r.reply ≡ accepted n) ↔ ((n ≡ length ls) × RowsFit s es ls array row × GoodBefore es ls (length ls))
   -- and no other number is given
   pub no_other : (s : State) (es ls array row : List ℕ) (k p : ℕ) (r : Replayed) (array' row' : List ℕ)
-      → Replays s es ls array row r array' row' → r.reply ≡ Refused k p → (4 ≤ k) × (k ≤ 10)
+      → Replays s es ls array row r array' row' → meant r.reply ≡ refused k p → (4 ≤ k) × (k ≤ 10)

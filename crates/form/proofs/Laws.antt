@@ -1,11 +1,16 @@
 -- Laws of the little-endian words that the proofs cite. Assumes nothing.
-use Prim.Native.Nat.{ℕ, suc, ◌+◌, ◌%◌, ◌/◌, ◌<◌, ◌≤◌}
+use Prim.Native.Nat.{ℕ, zero, suc, ◌+◌, ◌*◌, ◌<◌, ◌≤◌}
 use mathlib.Core.List.{List, [], ◌∷◌, ◌++◌, append_assoc, append-nil}
-use mathlib.Core.Path.{◌≡◌, refl, sym, ◌∙◌}
+use mathlib.Core.Path.{◌≡◌, refl, ap, sym, ◌∙◌}
 use native.Mathlib.Omega.{arith}
-use native.Mathlib.Numerals.{add-one}
+use native.Mathlib.Numerals.{add-one, unary_clauses}
 use lib.ListN.{length, get_or, take, drop, set, length-append, take-append-drop, drop_of_length-le}
-use lib.Seq.{drop-cons, take-suc-set, drop-set-lt, take_all, take_at, drop_at, sets-eq, length-take-le}
+use lib.Seq.{drop-cons, take-suc-set, drop-set-lt, take_all, drop-drop, length-take-le}
+use borrow.Rule.Slice.PartMut.{put_mid}
+use Rattle.std.specs.Simd.{first_chunks}
+use Rattle.std.proofs.Common.{w32}
+use Rattle.std.proofs.lemmas.Slice.{take-put_mid, drop-put_mid}
+use Rattle.std.specs.Int.{from_le_bytes, to_le_bytes}
 use Rattle.form.specs.Words.{word_of, decoded_of, encoded_of}
 
 -- Four bytes from an index on, and what follows them.
@@ -43,6 +48,16 @@ decode-turn bytes row at i w h p e =
       e,
     )
 
+-- The bytes of a word, as the chunk of four that they are.
+chunk-at : (n k i : ℕ) (xs d : List ℕ) → i < k → get_or (first_chunks n k xs) i d ≡ take n (drop (n * i) xs)
+chunk-at n zero i xs d h = absurd (omega arith)
+chunk-at n (suc k) zero xs d h = simp unary_clauses
+chunk-at n (suc k) (suc i) xs d h = chunk-at n k i (drop n xs) d (omega arith) ∙ ap (take n) (drop-drop (n * i) n xs ∙ ap (λ (m : ℕ). drop m xs) (omega arith))
+
+pub word-at : (bytes chunk d : List ℕ) (i k : ℕ) → i < k → 4 * i + 4 ≤ length bytes → chunk ≡ get_or (first_chunks 4 k bytes) i d
+    → from_le_bytes w32 chunk ≡ word_of (get_or bytes (4 * i) 0) (get_or bytes (4 * i + 1) 0) (get_or bytes (4 * i + 2) 0) (get_or bytes (4 * i + 3) 0)
+word-at bytes chunk d i k h p e = rw (e, chunk-at 4 k i bytes d h, four bytes (4 * i) p)
+
 decode-few : (bytes row : List ℕ) → length bytes < 4 → decoded_of bytes row ≡ row
 decode-few bytes [] h = refl
 decode-few [] (x ∷ row) h = refl
@@ -62,33 +77,28 @@ pub decode-whole : (bytes row whole : List ℕ) (i : ℕ) → length row ≤ i
 decode-whole bytes row whole i h e =
     sym (append-nil row) ∙ (rw (take_all i row h, drop_of_length-le row h) at e)
 
--- Four bytes stored from an index on.
-laid : (out : List ℕ) (at a b c d : ℕ) → at + 4 ≤ length out
-    → set (set (set (set out at a) (at + 1) b) (at + 2) c) (at + 3) d ≡ take at out ++ (a ∷ b ∷ c ∷ d ∷ []) ++ drop (at + 4) out
-laid out at a b c d h =
-    let e2 : at + 2 ≡ suc (suc at) = omega arith in
-    let e3 : at + 3 ≡ suc (suc (suc at)) = omega arith in
-    rw (add-one at, e2, e3) (sets-eq (a ∷ b ∷ c ∷ d ∷ []) out at h)
+-- Four bytes laid over a buffer lie in it.
+pub laid-within : (out bytes : List ℕ) (at k : ℕ) → at + 4 ≤ length out → k ≡ 4 → length bytes ≡ 4 → at + 4 ≤ length (put_mid at k out bytes)
+laid-within out bytes at k h e b =
+    let n : length (take at out) ≡ at = length-take-le at out (omega arith) in
+    simp length-append (omega (arith, n, b))
 
 -- One turn of the encoding: a word's four bytes are stored, and what is left is encoded after them.
-pub encode-turn : (words out out' : List ℕ) (at i w : ℕ) → at + 4 ≤ length out → i < length words → w ≡ get_or words i 0
-    → out' ≡ set (set (set (set out at (w % 256)) (at + 1) (w / 256 % 256)) (at + 2) (w / 65536 % 256)) (at + 3) (w / 16777216 % 256)
-    → take (at + 4) out' ++ encoded_of (drop (i + 1) words) (drop (at + 4) out')
+pub encode-turn : (words out bytes : List ℕ) (at i w k : ℕ) → at + 4 ≤ length out → k ≡ 4 → i < length words → w ≡ get_or words i 0
+    → bytes ≡ to_le_bytes w32 w
+    → take (at + 4) (put_mid at k out bytes) ++ encoded_of (drop (i + 1) words) (drop (at + 4) (put_mid at k out bytes))
     ≡ take at out ++ encoded_of (drop i words) (drop at out)
-encode-turn words out out' at i w h p e f =
-    let bs : List ℕ = w % 256 ∷ w / 256 % 256 ∷ w / 65536 % 256 ∷ w / 16777216 % 256 ∷ [] in
-    let g : out' ≡ (take at out ++ bs) ++ drop (at + 4) out =
-    f ∙ laid out at (w % 256) (w / 256 % 256) (w / 65536 % 256) (w / 16777216 % 256) h in
-    let k : length (take at out) ≡ at = length-take-le at out (omega arith) in
-    let n : length (take at out ++ bs) ≡ at + 4 = rw (length-append, k) in
+encode-turn words out bytes at i w k h four-more p e b =
+    let n : length bytes ≡ 4 = ap length b in
+    let past : drop (at + 4) (put_mid at k out bytes) ≡ drop (at + 4) out = drop-put_mid at k out bytes (at + 4) (omega arith) (omega arith) (omega arith) in
     rw (
-      g,
-      take_at (take at out ++ bs) (drop (at + 4) out) (at + 4) n,
-      drop_at (take at out ++ bs) (drop (at + 4) out) (at + 4) n,
+      take-put_mid at k out bytes (at + 4) (omega arith) (omega arith),
+      past,
       add-one i,
       four out at h,
       drop-cons words i 0 p,
       append_assoc,
+      b,
       e,
     )
 

@@ -1,3 +1,3 @@
 pub mod Laws
-pub mod Phases
+pub mod Put
 pub mod Short

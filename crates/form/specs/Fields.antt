@@ -1,5 +1,5 @@
 -- Words put into the fields of a state (docs/BENCH.md).
-use Rattle.std.specs.Prelude.{ℕ, min, cond, eqb}
+use Rattle.std.specs.Prelude.{ℕ, min, cond, eqb, Option, Some, None}
 use Rattle.page.specs.Page.{at}
 use Rattle.part.specs.State.{with_chip, with_timers, with_wire, with_device, with_write, with_hold, with_watchdog, with_counter, with_control, with_stored}
 use Rattle.part.specs.declared.state.Chip.{Chip}
@@ -13,13 +13,18 @@ use Rattle.form.specs.declared.fields.Preset.{Preset}
 abbrev pub keep_word : ℕ
 keep_word = 0xFFFFFFFF
 
--- What was there before a word, if the word leaves it, else what the word makes of it.
-abbrev pub unless_kept : {A : Type 0} → ℕ → A → A → A
-unless_kept word old new = cond (eqb word keep_word) old new
+-- What a word puts into a field: nothing, if the word leaves it.
+abbrev pub given : ℕ → Option ℕ
+given word = cond (eqb word keep_word) None (Some word)
 
--- A word put into a field whose largest number is given: it stays if the word says so, and a wider word counts as that number.
-unfoldable pub field_of : ℕ → ℕ → ℕ → ℕ
-field_of most word old = unless_kept word old (min word most)
+-- What was there before, if nothing is put there, else what the word that is put there makes of it.
+abbrev pub unless_kept : {A : Type 0} → Option ℕ → A → (ℕ → A) → A
+unless_kept None old new = old
+unless_kept (Some word) old new = new word
+
+-- A word put into a field whose largest number is given: it stays if nothing is put, and a wider word counts as that number.
+unfoldable pub field_of : ℕ → Option ℕ → ℕ → ℕ
+field_of most word old = unless_kept word old (λ (w : ℕ). min w most)
 
 -- The chip with the part number and the select put in.
 abbrev pub chip_of : Preset → Chip → Chip

@@ -1,5 +1,5 @@
 -- What a long case says beyond a short one: words 16 to 31 of its header, put into the state (docs/BENCH.md).
-use Rattle.std.specs.Prelude.{ℕ, ◌-◌, ◌/◌, ◌^◌, min, Bool, true, List, [], ◌∷◌, get_or}
+use Rattle.std.specs.Prelude.{ℕ, ◌-◌, ◌/◌, ◌^◌, min, Bool, true, List, [], ◌∷◌, get_or, Option, None}
 use Rattle.ground.specs.Cases.{odd}
 use Rattle.page.specs.Page.{filled_of}
 use Rattle.part.specs.State.{with_timers, with_wire, with_device, with_load, with_reset, with_low, with_talk, with_own, with_control, with_wel, with_rwel, with_chosen, with_pending}
@@ -10,12 +10,12 @@ use Rattle.part.specs.declared.state.Timers.{Timers}
 use Rattle.part.specs.declared.state.Wire.{Wire}
 use Rattle.part.specs.declared.state.Device.{Device}
 use Rattle.part.specs.declared.state.State.{State}
-use Rattle.form.specs.Fields.{keep_word, unless_kept}
+use Rattle.form.specs.Fields.{given, unless_kept}
 use Rattle.form.specs.declared.further.Further.{Further}
 
 -- What a short case says: nothing, so that every field stays.
 abbrev pub no_further : Further
-no_further = record { phase = keep_word; flags = keep_word; pending = keep_word; loaded = keep_word }
+no_further = record { phase = None; flags = None; pending = None; loaded = None }
 
 -- A word of the longer header, by its number, of the sixteen that follow the first sixteen.
 abbrev pub numbered : ℕ → List ℕ → ℕ
@@ -23,7 +23,13 @@ numbered n ws = get_or ws (n - 16) 0
 
 -- The further words that count; 16 to 22 and 27 to 31 are not looked at.
 abbrev pub further_of : List ℕ → Further
-further_of ws = record { phase = numbered 23 ws; flags = numbered 24 ws; pending = numbered 25 ws; loaded = numbered 26 ws }
+further_of ws =
+    record {
+      phase = given (numbered 23 ws);
+      flags = given (numbered 24 ws);
+      pending = given (numbered 25 ws);
+      loaded = given (numbered 26 ws);
+    }
 
 -- The phases in the order of their numbers, from 0 on.
 abbrev pub phases : List Phase
@@ -75,9 +81,9 @@ pending_in v s = with_device s (with_control s.device (with_pending s.device.con
 abbrev pub loaded_in : ℕ → State → State
 loaded_in v s = with_load s (filled_of s.load s.device.counter v)
 
--- A byte that a word puts into the state: the state stays if the word says so, and a wider word counts as 255.
-unfoldable pub put_by_word : (ℕ → State → State) → ℕ → State → State
-put_by_word put word s = unless_kept word s (put (min word 255) s)
+-- A byte that a word puts into the state: the state stays if nothing is put, and a wider word counts as 255.
+unfoldable pub put_by_word : (ℕ → State → State) → Option ℕ → State → State
+put_by_word put word s = unless_kept word s (λ (w : ℕ). put (min w 255) s)
 
 -- The state with the further words put in.
 unfoldable pub further_in : Further → State → State

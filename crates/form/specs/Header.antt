@@ -1,7 +1,7 @@
 -- The sixteen words that open a case, and the sixteen more of a long one (docs/BENCH.md).
 use Rattle.std.specs.Prelude.{ℕ, ◌%◌, List, leb, get_or}
 use Rattle.part.specs.declared.state.State.{State}
-use Rattle.form.specs.Fields.{put_in_of}
+use Rattle.form.specs.Fields.{given, put_in_of}
 use Rattle.form.specs.Further.{no_further, further_of, further_in}
 use Rattle.form.specs.declared.fields.Preset.{Preset}
 use Rattle.form.specs.declared.headers.Header.{Header}
@@ -14,14 +14,14 @@ long_mark = 0x80000000
 abbrev pub preset_of : List ℕ → Preset
 preset_of ws =
     record {
-      counter = get_or ws 8 0;
-      bits = get_or ws 9 0;
-      write = get_or ws 10 0;
-      hold = get_or ws 11 0;
-      watchdog = get_or ws 12 0;
-      part = get_or ws 13 0;
-      select = get_or ws 14 0;
-      stored = get_or ws 15 0;
+      counter = given (get_or ws 8 0);
+      bits = given (get_or ws 9 0);
+      write = given (get_or ws 10 0);
+      hold = given (get_or ws 11 0);
+      watchdog = given (get_or ws 12 0);
+      part = given (get_or ws 13 0);
+      select = given (get_or ws 14 0);
+      stored = given (get_or ws 15 0);
     }
 
 -- The first eight words: the power-up, the count of replays and four lengths, one with the mark of a long case; then the rest.

@@ -2,7 +2,7 @@
 ghost use Rattle.std.specs.Prelude.{◌≡◌};
 ghost use Rattle.form.specs.Header.{header_of, longer_of, state_of};
 
-use crate::fields::{KEEP, Preset};
+use crate::fields::{Preset, given};
 use crate::further::Further;
 use crate::{fields, further};
 use part::state::State;
@@ -44,20 +44,20 @@ pub fn header_of(words: &[u32; 16]) -> Header
         levels: words[6],
         answers: words[7],
         preset: Preset {
-            counter: words[8],
-            bits: words[9],
-            write: words[10],
-            hold: words[11],
-            watchdog: words[12],
-            part: words[13],
-            select: words[14],
-            stored: words[15],
+            counter: given(words[8]),
+            bits: given(words[9]),
+            write: given(words[10]),
+            hold: given(words[11]),
+            watchdog: given(words[12]),
+            part: given(words[13]),
+            select: given(words[14]),
+            stored: given(words[15]),
         },
         further: Further {
-            phase: KEEP,
-            flags: KEEP,
-            pending: KEEP,
-            loaded: KEEP,
+            phase: None,
+            flags: None,
+            pending: None,
+            loaded: None,
         },
     }
 }
@@ -67,17 +67,16 @@ pub fn longer(header: Header, words: &[u32; 16]) -> Header
     ensures { result ≡ longer_of header words.now }
 {
     let further = Further {
-        phase: words[23 - FIRST],
-        flags: words[24 - FIRST],
-        pending: words[25 - FIRST],
-        loaded: words[26 - FIRST],
+        phase: given(words[23 - FIRST]),
+        flags: given(words[24 - FIRST]),
+        pending: given(words[25 - FIRST]),
+        loaded: given(words[26 - FIRST]),
     };
-    let mut next = header;
-    next.further = further;
-    next
+    Header { further, ..header }
 }
 
 // A state with all words of the header put in: what a case starts from, where the state is powered up.
+#[tactic(auto, unfolding(crate::specs::Header::state_of))]
 pub fn state_of(header: Header, state: State) -> State
     ensures { result ≡ state_of header state }
 {

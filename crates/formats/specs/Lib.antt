@@ -1,1 +1,1 @@
-pub mod Formats
+pub mod Measured

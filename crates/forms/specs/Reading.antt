@@ -1,10 +1,12 @@
 -- Reading an image of any form of record, line after line (document 01, Image files; Refusal numbers, 11 to 18).
-use Rattle.std.specs.Prelude.{ℕ, ◌+◌, Bool, true, false, ◌||◌, List, [], ◌∷◌, ◌++◌, eqb, leb, length, take, drop, replicate}
+use Rattle.std.specs.Prelude.{ℕ, ◌+◌, Bool, true, false, ◌||◌, List, [], ◌∷◌, ◌++◌, Result, Ok, Err, eqb, leb, length, take, drop, replicate}
+use Rattle.ground.specs.Verdict.{number_of}
+use Rattle.ground.specs.declared.Reason.{Reason}
 use Rattle.lines.specs.Lines.{lines_of, trimmed}
 use Rattle.cells.specs.Cells.{not_given, fresh_of, give_of, settled_of}
 use Rattle.forms.specs.Form.{Form}
 use Rattle.forms.specs.declared.Says.{Says}
-use Rattle.forms.specs.declared.Says.TheVariants.{Gives, Ends, Faulty}
+use Rattle.forms.specs.declared.Says.TheVariants.{Gives, Ends}
 
 -- The longest text (Refusal numbers, 11).
 abbrev pub most_text : ℕ
@@ -17,10 +19,10 @@ pub data Heard : Type 0 where
   faulty : ℕ → Heard
 
 -- What each case of the code's answer to a line says in the paper's numbers (Refusal numbers, 12 to 16).
-abbrev pub says_meant : Says → Heard
-says_meant Gives = gives
-says_meant Ends = ends
-says_meant (Faulty k) = faulty k
+abbrev pub says_meant : Result Says Reason → Heard
+says_meant (Ok Gives) = gives
+says_meant (Ok Ends) = ends
+says_meant (Err reason) = faulty (number_of reason)
 
 -- Refusals 12 to 16 in numeric order; a line without fault ends the image or gives its data (Refusal numbers, 12 to 16).
 abbrev pub says_by : Bool → Bool → Bool → Bool → Bool → Bool → Heard

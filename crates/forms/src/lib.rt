@@ -3,32 +3,31 @@
 
 ghost use Rattle.forms.specs.Parts.{Places};
 
+use ground::Reason;
+
 // Bytes in a row, and so in each record that the writer makes.
 pub const ROW: usize = 16;
 
-// A sound line gives data or ends the image; any other is refused with a number.
-#[derive(Clone, Copy)]
+// What a sound line says: it gives data, or it ends the image.
+#[derive(Clone, Copy, Debug, PartialEq, Eq)]
 pub enum Says {
     Gives,
     Ends,
-    Faulty(u8),
 }
 
 // Gives bytes to the cells from an address on, unless they lie beyond or are given already.
-pub fn place(address: usize, bytes: &[u8], cells: &mut [u16]) -> Says
+pub fn place(address: usize, bytes: &[u8], cells: &mut [u16]) -> Result<Says, Reason>
     ensures { Places address bytes.now cells.old result cells.new }
 {
-    if bytes.len() == 0 {
-        return Says::Gives;
+    if bytes.is_empty() {
+        return Ok(Says::Gives);
     }
-    if address > cells.len() {
-        return Says::Faulty(15);
-    }
-    if bytes.len() > cells.len() - address {
-        return Says::Faulty(15);
+    if bytes.len() > cells.len().saturating_sub(address) {
+        return Err(Reason::BeyondArray);
     }
     if cells::give(&mut cells[address..], bytes) {
-        return Says::Gives;
+        Ok(Says::Gives)
+    } else {
+        Err(Reason::GivenTwice)
     }
-    Says::Faulty(16)
 }

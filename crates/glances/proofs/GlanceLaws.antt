@@ -1,5 +1,5 @@
 -- Laws of tokens seen at a glance. Assumes nothing.
-use Rattle.std.proofs.Common.{◌≡◌, ℕ, zero, suc, ◌+◌, ◌-◌, ◌*◌, ◌/◌, ◌%◌, ◌^◌, ◌<◌, ◌≤◌, min, Bool, true, false, ◌&&◌, eqb, ltb, List, [], ◌∷◌, length, get_or, take, drop, sym, refl, ap, ◌∙◌, mul_assoc, pow-suc, add-one, arith, length-drop, length-take-le, get_or-drop, drop-cons, lt-ltb, eq-eqb, ne_eqb, le-leb}
+use Rattle.std.proofs.Common.{◌≡◌, ℕ, zero, suc, ◌+◌, ◌-◌, ◌*◌, ◌/◌, ◌^◌, ◌<◌, ◌≤◌, min, Bool, true, false, ◌&&◌, eqb, ltb, List, [], ◌∷◌, length, get_or, take, drop, sym, refl, ap, ◌∙◌, mul_assoc, pow-suc, add-one, arith, length-drop, length-take-le, get_or-drop, drop-cons, lt-ltb, eq-eqb, ne_eqb, le-leb}
 use native.Mathlib.Nat.{min-eq_left, pow-le-pow_right}
 use borrow.Author.Tests.{eqb-false}
 use Rattle.codes.specs.Codes.{hash}
@@ -20,6 +20,7 @@ use Rattle.dumps.specs.Reading.{says_of}
 use Rattle.dumps.specs.Defined.{vars_of, body_at}
 use Rattle.headings.specs.Parts.{Tabled}
 use Rattle.tokens.specs.declared.Past.{Past}
+use Rattle.std.specs.Prelude.{Some}
 use Rattle.glances.specs.Parts.{Sees, SeesMarks, SeesTime, Skims}
 
 -- A blank is passed.
@@ -121,10 +122,7 @@ pub record Reads (dump : List ℕ) (from value i : ℕ) : Type 0 where
   pub told : value ≡ figures_value decimal_base (take i (drop (suc from) dump))
   pub whole : solid (take (suc i) (drop from dump)) ≡ true
 
--- A digit by its difference to the character of nought, and what so many digits come to at most.
-pub digit-by : (c digit : ℕ) → c < 256 → (digit + 0x30) % 2 ^ 64 ≡ c → digit ≤ 9 → c ≡ digit + 0x30
-digit-by c digit h e k = omega arith
-
+-- What so many digits come to at most.
 pub power_small : (i : ℕ) → i ≤ 11 → decimal_base ^ i ≤ 100000000000
 power_small i h = let z : 0 < decimal_base = omega arith in pow-le-pow_right z h
 
@@ -174,14 +172,11 @@ module _ (dump : List ℕ) (from : ℕ) (inside : from + 12 ≤ length dump) whe
         }
 
     pub time-seen : {b : Bool} → get_or dump from 0 ≡ hash → b ≡ blank (get_or dump (from + 1 + i) 0) → b ≡ true → 0 < i → value < no_time
-        → SeesTime dump from (record { time = value; length = i + 1 })
+        → SeesTime dump from (Some (record { time = value; length = i + 1 }))
     time-seen h e f some fits =
         let m : from + (i + 1) ≡ from + 1 + i = omega arith in
-        record { none = λ z. absurd (omega arith); seen = λ z line small. rw m (sees-time line small h e f some fits) }
+        λ line small. rw m (sees-time line small h e f some fits)
 
--- Nothing is said by length 0, or by marks of 0.
-pub time-unseen : (dump : List ℕ) (from : ℕ) → SeesTime dump from (record { time = 0; length = 0 })
-time-unseen dump from = record { none = λ z. refl; seen = λ z. absurd (omega arith) }
-
+-- Nothing is said by marks of 0.
 pub marks-unseen : (dump : List ℕ) (from : ℕ) → SeesMarks dump from 0
 marks-unseen dump from = record { seen = λ z. absurd (omega arith) }

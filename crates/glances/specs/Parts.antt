@@ -1,5 +1,5 @@
 -- What a glance promises: a token, and what it says outside every section behind a time line.
-use Rattle.std.specs.Prelude.{◌≡◌, ℕ, ◌+◌, ◌<◌, ◌≤◌, true, List, drop, slice_index, slice_range}
+use Rattle.std.specs.Prelude.{◌≡◌, ℕ, ◌+◌, ◌<◌, ◌≤◌, true, List, drop, slice_index, slice_range, Option, None, Some}
 use Rattle.sections.specs.declared.Place.TheVariants.{Between}
 use Rattle.sections.specs.Sections.{Says, times, puts}
 use Rattle.tokens.specs.Tokens.{tokens_from}
@@ -19,10 +19,10 @@ pub record Sees (dump : List ℕ) (at line to on : ℕ) (says : Says) : Type 0 w
 pub record SeesMarks (dump : List ℕ) (from r : ℕ) : Type 0 where
   pub seen : 0 < r → (line : ℕ) → line ≤ from → Sees dump from line (from + 2) line (puts (slice_index dump from) r)
 
--- A time and its token's length, on any line; length 0 says nothing, and its time is 0.
-pub record SeesTime (dump : List ℕ) (from : ℕ) (r : Seen) : Type 0 where
-  pub none : r.length ≡ 0 → r.time ≡ 0
-  pub seen : 0 < r.length → (line : ℕ) → line ≤ from → Sees dump from line (from + r.length) line (times r.time)
+-- A time and its token's length, on any line; none says nothing.
+abbrev pub SeesTime : List ℕ → ℕ → Option Seen → Type 0
+SeesTime dump from None = Unit {0}
+SeesTime dump from (Some seen) = (line : ℕ) → line ≤ from → Sees dump from line (from + seen.length) line (times seen.time)
 
 -- Past a blank, if there is one: the same tokens are left.
 pub record Skims (dump : List ℕ) (at line : ℕ) (r : Past) : Type 0 where

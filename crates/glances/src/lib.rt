@@ -9,12 +9,10 @@ ghost use Rattle.dumps.specs.Defined.{vars_of};
 ghost use Rattle.headings.specs.Parts.{Tabled};
 ghost use Rattle.glances.specs.Parts.{SeesMarks, SeesTime, Skims};
 
-use std::num;
 use tokens::{Past, is_blank};
-use wires::times;
 
-// A time that is seen, and its token's length; length 0 and time 0 where none is.
-#[derive(Clone, Copy)]
+// A time that is seen, and its token's length.
+#[derive(Clone, Copy, Debug, PartialEq, Eq)]
 pub struct Seen {
     pub time: u64,
     pub length: usize,
@@ -24,6 +22,8 @@ pub struct Seen {
 pub const ZERO_OR_ONE: u8 = 0x18;
 
 const NOUGHT: u64 = 0x30;
+
+const HIGHEST_TIME: u64 = u32::MAX as u64;
 
 // How many characters behind a hash are looked at: the digits of the highest time, and a blank.
 const DIGITS: usize = 11;
@@ -37,61 +37,52 @@ pub fn past_blank(dump: &[u8], at: usize, line: usize) -> Past
     requires line_le_at { line ≤ at }
     ensures { Skims dump.now at line result }
 {
-    let character = dump[at];
-    if character == lines::LINE_FEED {
-        return Past {
+    match dump[at] {
+        lines::LINE_FEED => Past {
             at: at + 1,
             line: line + 1,
-        };
+        },
+        tokens::SPACE => Past { at: at + 1, line },
+        _ => Past { at, line },
     }
-    if character == tokens::SPACE {
-        return Past { at: at + 1, line };
-    }
-    Past { at, line }
 }
 
 // Whether a character parts tokens; most often it is a line feed.
 fn ends(character: u8) -> bool
     ensures { result ≡ blank character }
 {
-    if character == lines::LINE_FEED {
-        return true;
-    }
-    is_blank(character)
+    character == lines::LINE_FEED || is_blank(character)
 }
 
 // The time whose hash is at `from`, and the length of its token. A digit is told by its difference to the character 0, in one comparison.
-pub fn time_at(dump: &[u8], from: usize) -> Seen
+// It is inlined, so that the Option costs its two callers no more than a comparison.
+#[inline(always)]
+pub fn time_at(dump: &[u8], from: usize) -> Option<Seen>
     requires from_in_bounds { from + 12 ≤ length dump.now }
     requires from_value { slice_index dump.now from ≡ hash }
     ensures { SeesTime dump.now from result }
 {
     let start = from + 1;
-    let mut value: u64 = 0;
-    let mut i: usize = 0;
-    while i < DIGITS {
+    let mut time: u64 = 0;
+    for i in 0..DIGITS {
         let character = dump[start + i];
-        let digit = num::wrapping_sub_u64(character as u64, NOUGHT);
+        let digit = u64::from(character).wrapping_sub(NOUGHT);
         if digit > 9 {
-            if ends(character) {
-                if i > 0 {
-                    if value < times::NO_TIME {
-                        return Seen {
-                            time: value,
-                            length: i + 1,
-                        };
-                    }
-                }
+            if i > 0 && time <= HIGHEST_TIME && ends(character) {
+                return Some(Seen {
+                    time,
+                    length: i + 1,
+                });
             }
-            return Seen { time: 0, length: 0 };
+            return None;
         }
-        value = value * 10 + digit;
-        i += 1;
+        time = time * 10 + digit;
     }
-    Seen { time: 0, length: 0 }
+    None
 }
 
-// The marks of the value of two characters at `from`, the first of which is 0 or 1, with a blank behind it; or 0.
+// The marks of the value of two characters at `from`, the first of which is 0 or 1, with a blank behind it; none is the empty
+// set of marks, 0.
 pub fn marks_at(dump: &[u8], table: &[u8], from: usize) -> u8
     requires tabled { Tabled (vars_of dump.now) table.now }
     requires from_in_bounds { from + 12 ≤ length dump.now }
@@ -99,10 +90,9 @@ pub fn marks_at(dump: &[u8], table: &[u8], from: usize) -> u8
     ensures { SeesMarks dump.now from result }
 {
     let code = dump[from + 1];
-    if code > tokens::SPACE {
-        if ends(dump[from + 2]) {
-            return table[code as usize];
-        }
+    if code > tokens::SPACE && ends(dump[from + 2]) {
+        table[usize::from(code)]
+    } else {
+        0
     }
-    0
 }

@@ -1,5 +1,5 @@
 // Small words that larger functions are made of.
-ghost use Rattle.std.specs.Prelude.{◌≡◌, ◌≤◌, min};
+ghost use Rattle.std.specs.Prelude.{◌≡◌, ◌≤◌};
 ghost use Rattle.ground.specs.Cases.{or_zero};
 
 // The value if the test holds, else 0.
@@ -11,14 +11,4 @@ pub fn worth(test: bool, value: u8) -> u8
         return value;
     }
     0
-}
-
-// The lesser of two numbers.
-pub fn lesser(a: usize, b: usize) -> usize
-    ensures { result ≡ min a b }
-{
-    if a < b {
-        return a;
-    }
-    b
 }

@@ -15,7 +15,8 @@ pub const SMALL_SIZE: u16 = 4096;
 
 pub const LARGE_SIZE: u16 = 16384;
 
-// The array's size in bytes, the RESET pin's active level, and whether block codes 1 and 2 lock upper blocks. A size of 0 is no part.
+// The array's size in bytes, the RESET pin's active level, and whether block codes 1 and 2 lock upper blocks. A size of 0 is no part:
+// `kind_of` of the specs gives every number a kind, since the theorems on states speak also of a state that names no part.
 #[derive(Clone, Copy)]
 pub struct Kind {
     pub size: u16,
@@ -23,7 +24,7 @@ pub struct Kind {
     pub upper: bool,
 }
 
-// A part of the smaller size, by its RESET pin.
+// A part of the smaller size, by its RESET pin. It and the next carry one definition each.
 fn small(high: bool) -> Kind
     ensures { result ≡ smaller high }
 {
@@ -61,20 +62,13 @@ pub fn kind_of(part: u16) -> Kind
     }
 }
 
-// The size of a part's array.
-#[derive(Clone, Copy)]
-pub enum Size {
-    Bytes(u32),
-    Unknown,
-}
-
 // The array's size of the part that a number names.
-pub fn size_of(part: u16) -> Size
+pub fn size_of(part: u16) -> Option<u32>
     ensures { SizesPart part result }
 {
     let kind = kind_of(part);
     if kind.size == 0 {
-        return Size::Unknown;
+        return None;
     }
-    Size::Bytes(kind.size as u32)
+    Some(kind.size as u32)
 }

@@ -1,90 +1,100 @@
 -- Laws of the first of two faults. Assumes nothing.
-use Prim.Native.Nat.{ℕ, ◌≤◌, ◌<◌}
+use Prim.Native.Nat.{ℕ, ◌≤◌}
 use mathlib.Core.Bool.{Bool, true, false}
 use mathlib.Core.List.{List, ◌∷◌}
-use mathlib.Core.Path.{◌≡◌, refl, ap, ◌∙◌}
+use mathlib.Core.Path.{◌≡◌, refl, ap}
 use lib.Dec.{eqb}
-use borrow.Author.Tests.{lt-ltb, le-ltb, le-leb, lt-leb, eq-eqb, ne_eqb, eqb-true, eqb-false}
+use Rattle.std.specs.Prelude.{Option, None, Some, IfSome}
+use Rattle.ground.specs.declared.Reason.{Reason}
+use Rattle.ground.specs.declared.Reason.TheVariants.{PartUnknown, SelectTooHigh, StoredHasLatch, StateOutOfRange, ArrayLength, RowLengths, TooManySamples, AnswerLength, TimeTooLong, LevelTooHigh, TextTooLong, LineMalformed, ChecksumWrong, RecordType, BeyondArray, GivenTwice, EndMissing, BytesAfterEnd, RoomTooSmall, DumpMalformed, WiresWrong, TimeNotAbove, ValueUnfit}
+use Rattle.ground.specs.Verdict.{number_of}
 use Rattle.dumps.specs.Faults as dumped
 use Rattle.dumps.specs.Faults.{comes_first, first_by, first, note_by, note, verdict_by}
 use Rattle.headings.specs.declared.faults.Fault.{Fault}
-use Rattle.headings.specs.Parts.{joined_by, joined_of}
+use Rattle.headings.specs.Parts.{number_in, fault_meant, noted, joined_by, first_of, joined_of}
+
+-- No reason has the number 0.
+pub some-number : (r : Reason) → eqb (number_of r) 0 ≡ false
+some-number PartUnknown = refl
+some-number SelectTooHigh = refl
+some-number StoredHasLatch = refl
+some-number StateOutOfRange = refl
+some-number ArrayLength = refl
+some-number RowLengths = refl
+some-number TooManySamples = refl
+some-number AnswerLength = refl
+some-number TimeTooLong = refl
+some-number LevelTooHigh = refl
+some-number TextTooLong = refl
+some-number LineMalformed = refl
+some-number ChecksumWrong = refl
+some-number RecordType = refl
+some-number BeyondArray = refl
+some-number GivenTwice = refl
+some-number EndMissing = refl
+some-number BytesAfterEnd = refl
+some-number RoomTooSmall = refl
+some-number DumpMalformed = refl
+some-number WiresWrong = refl
+some-number TimeNotAbove = refl
+some-number ValueUnfit = refl
+
+-- A fault by its number is noted as it is.
+pub note-reason : (reason : Reason) (line : ℕ) (rest : List dumped.Fault)
+    → note line (number_of reason) rest ≡ fault_meant (record { reason = reason; line = line }) ∷ rest
+unfolding note
+note-reason reason line rest = rw (some-number reason)
+
+pub note-none : (line : ℕ) (rest : List dumped.Fault) → note line 0 rest ≡ rest
+unfolding note
+note-none line rest = refl
 
 -- The first of two, by the test.
-first_by_lem : (f g : dumped.Fault) {b : Bool} → comes_first f g ≡ b → first f g ≡ first_by b f g
+first_by_lem : (f g : Fault) (b : Bool) → comes_first (fault_meant f) (fault_meant g) ≡ b
+    → first (fault_meant f) (fault_meant g) ≡ fault_meant (joined_by b f g)
 unfolding first
-first_by_lem f g e = rw e
+first_by_lem f g true e = rw e
+first_by_lem f g false e = rw e
 
-module _ (p : Fault) (n line : ℕ) where
-  -- The first of a fault and another, by the code's tests.
-  pub join-none : n ≡ 0 → p ≡ joined_of p n line
-  unfolding joined_of
-  join-none e = rw (eq-eqb n 0 e)
+pub first-meant : (f g : Fault) → first (fault_meant f) (fault_meant g) ≡ fault_meant (first_of (Some f) g)
+first-meant f g = first_by_lem f g _ refl
 
-  module _ (a : n ≡ 0 → ⊥) where
-    pub join_free : p.number ≡ 0 → record { number = n; line = line } ≡ joined_of p n line
-    unfolding joined_of
-    join_free e = rw (ne_eqb n 0 a, eq-eqb p.number 0 e)
+-- Joined, the verdict is the same, whatever follows.
+pub first-verdict : (p : Option Fault) (g : Fault) (rest : List dumped.Fault) (count : ℕ)
+    → verdict_by (noted p (fault_meant g ∷ rest)) count ≡ verdict_by (fault_meant (first_of p g) ∷ rest) count
+first-verdict None g rest count = refl
+first-verdict (Some f) g rest count = ap (λ (q : dumped.Fault). verdict_by (q ∷ rest) count) (first-meant f g)
 
-    module _ (b : p.number ≡ 0 → ⊥) where
-      pub join-before : p.line < line → p ≡ joined_of p n line
-      unfolding joined_of
-      join-before h = rw (ne_eqb n 0 a, ne_eqb p.number 0 b, lt-ltb p.line line h)
+pub joined-verdict : (p : Option Fault) (n : Option Reason) (line : ℕ) (rest : List dumped.Fault) (count : ℕ)
+    → verdict_by (noted p (note line (number_in n) rest)) count ≡ verdict_by (noted (joined_of p n line) rest) count
+unfolding note joined_of
+joined-verdict p None line rest count = refl
+joined-verdict p (Some reason) line rest count =
+    let e = some-number reason in
+    rw e (first-verdict p (record { reason = reason; line = line }) rest count)
 
-      module _ (h : line ≤ p.line) where
-        pub join-behind : (p.line ≡ line → ⊥) → record { number = n; line = line } ≡ joined_of p n line
-        unfolding joined_of
-        join-behind k = rw (ne_eqb n 0 a, ne_eqb p.number 0 b, le-ltb p.line line h, ne_eqb p.line line k)
+-- It stands no further than the two.
+first-by : (b : Bool) (f g : Fault) (most : ℕ) → f.line ≤ most → g.line ≤ most → (joined_by b f g).line ≤ most
+first-by true f g most h k = h
+first-by false f g most h k = k
 
-        pub join-low : p.line ≡ line → p.number ≤ n → p ≡ joined_of p n line
-        unfolding joined_of
-        join-low k m =
-            rw (ne_eqb n 0 a, ne_eqb p.number 0 b, le-ltb p.line line h, eq-eqb p.line line k, le-leb p.number n m)
+pub first_small : (p : Option Fault) (g : Fault) (most : ℕ) → IfSome p (λ f. f.line ≤ most) → g.line ≤ most
+    → (first_of p g).line ≤ most
+first_small None g most h k = k
+first_small (Some f) g most h k = first-by (comes_first (fault_meant f) (fault_meant g)) f g most h k
 
-        pub join-high : p.line ≡ line → n < p.number → record { number = n; line = line } ≡ joined_of p n line
-        unfolding joined_of
-        join-high k m =
-            rw (ne_eqb n 0 a, ne_eqb p.number 0 b, le-ltb p.line line h, eq-eqb p.line line k, lt-leb p.number n m)
+pub joined_small : (p : Option Fault) (n : Option Reason) (line most : ℕ) → IfSome p (λ f. f.line ≤ most) → line ≤ most
+    → IfSome (joined_of p n line) (λ f. f.line ≤ most)
+unfolding joined_of
+joined_small p None line most h k = h
+joined_small p (Some reason) line most h k = first_small p (record { reason = reason; line = line }) most h k
 
-  -- Joined, the verdict is the same, whatever follows.
-  join_by_lem : (a z b : Bool) (rest : List dumped.Fault) (count : ℕ) → eqb n 0 ≡ a → eqb p.number 0 ≡ z
-      → comes_first (record { line = p.line; number = p.number }) (record { line = line; number = n }) ≡ b
-      → verdict_by (note_by z p.line p.number (note_by a line n rest)) count
-      ≡ verdict_by (note (joined_by a z b p n line).line (joined_by a z b p n line).number rest) count
-  unfolding note
-  join_by_lem true z b rest count e f g = rw f
-  join_by_lem false true b rest count e f g = rw e
-  join_by_lem false false true rest count e f g =
-      ap (λ (q : dumped.Fault). verdict_by (q ∷ rest) count) (first_by_lem _ _ g) ∙ rw f
-  join_by_lem false false false rest count e f g =
-      ap (λ (q : dumped.Fault). verdict_by (q ∷ rest) count) (first_by_lem _ _ g) ∙ rw e
+-- Joined they are none only where neither is one.
+pub joined-clear : (p : Option Fault) (n : Option Reason) (line : ℕ) → joined_of p n line ≡ None → (p ≡ None) × (n ≡ None)
+unfolding joined_of
+joined-clear p None line e = (e, refl)
+joined-clear p (Some reason) line e = (cc, cc)
 
-  pub joined-verdict : (rest : List dumped.Fault) (count : ℕ)
-      → verdict_by (note p.line p.number (note line n rest)) count
-      ≡ verdict_by (note (joined_of p n line).line (joined_of p n line).number rest) count
-  unfolding note joined_of
-  joined-verdict rest count = join_by_lem (eqb n 0) (eqb p.number 0) _ rest count refl refl refl
-
-  -- It stands no further than the two.
-  joined_by_lem : (a z b : Bool) (most : ℕ) → p.line ≤ most → line ≤ most → (joined_by a z b p n line).line ≤ most
-  joined_by_lem true z b most h k = h
-  joined_by_lem false true b most h k = k
-  joined_by_lem false false true most h k = h
-  joined_by_lem false false false most h k = k
-
-  pub joined_small : (most : ℕ) → p.line ≤ most → line ≤ most → (joined_of p n line).line ≤ most
-  unfolding joined_of
-  joined_small most h k =
-      joined_by_lem (eqb n 0) (eqb p.number 0)
-      (comes_first (record { line = p.line; number = p.number }) (record { line = line; number = n })) most h k
-
-  -- Joined they are none only where neither is one.
-  clear-by : (a z b : Bool) → eqb n 0 ≡ a → eqb p.number 0 ≡ z → (joined_by a z b p n line).number ≡ 0 → (p.number ≡ 0) × (n ≡ 0)
-  clear-by true z b e f g = (g, eqb-true n 0 e)
-  clear-by false true b e f g = absurd (eqb-false n 0 e g)
-  clear-by false false true e f g = absurd (eqb-false p.number 0 f g)
-  clear-by false false false e f g = absurd (eqb-false n 0 e g)
-
-  pub joined-clear : (joined_of p n line).number ≡ 0 → (p.number ≡ 0) × (n ≡ 0)
-  unfolding joined_of
-  joined-clear g = clear-by (eqb n 0) (eqb p.number 0) _ refl refl g
+pub join-none : (p : Option Fault) (line : ℕ) → joined_of p None line ≡ p
+unfolding joined_of
+join-none p line = refl

@@ -1,163 +1,155 @@
 -- Laws of reading the definitions: what each token leaves, and what is promised where they end. Assumes nothing.
-use Prim.Native.Nat.{ℕ, ◌-◌, ◌≤◌}
-use mathlib.Core.Bool.{true, false, ◌&&◌, not, true≢false}
+use Prim.Native.Nat.{ℕ, ◌≤◌}
+use mathlib.Core.Bool.{false, not}
 use mathlib.Core.List.{List, [], ◌∷◌}
-use mathlib.Core.Path.{◌≡◌, refl, ap, sym, subst, ◌∙◌}
-use native.Mathlib.Omega.{arith}
+use mathlib.Core.Path.{◌≡◌, refl, ap, ◌∙◌}
 use lib.Dec.{eqb}
-use lib.ListN.{length, take, drop, replicate}
-use Rattle.tokens.specs.Tokens.{tokens_from}
+use lib.ListN.{length, replicate}
+use Rattle.std.specs.List.{slice_range}
+use mathlib.Core.Logic.{◌⊎◌, inl, inr}
 use Rattle.tokens.proofs.TokenLaws.{words-none}
 use Rattle.sections.specs.declared.Stage.{Stage}
-use Rattle.sections.specs.declared.Stage.TheVariants.{Start, Body}
+use Rattle.sections.specs.declared.Stage.TheVariants.{Start}
 use Rattle.sections.specs.declared.Place.{Place}
-use Rattle.sections.specs.declared.Place.TheVariants.{Between, VarName, Close}
+use Rattle.sections.specs.declared.Place.TheVariants.{Between}
 use Rattle.sections.specs.declared.Step.{Step}
-use Rattle.sections.specs.declared.Step.TheVariants.{Moves, Codes, Names, Defines as Ends, Breaks}
-use Rattle.sections.specs.Sections.{is_body}
+use Rattle.sections.specs.declared.Step.TheVariants.{Moves, Codes, Names, Defines as Ends}
+use Rattle.std.specs.Prelude.{Option, None, Some, IfSome, Ok, Err}
 use Rattle.wires.specs.Wires.{Var, all_wires, laid, named_of, has_wire, weight_of}
-use Rattle.dumps.specs.Reading.{is_between}
 use Rattle.dumps.specs.Defined.{body_at}
-use Rattle.dumps.specs.Faults.{unheard, fault_if}
+use Rattle.dumps.specs.Faults.{unheard, fault_if, note}
 use Rattle.dumps.proofs.Inside.{heading, ends-inside, over-body}
+use Rattle.ground.specs.declared.Reason.{Reason}
+use Rattle.ground.specs.declared.Reason.TheVariants.{DumpMalformed}
 use Rattle.headings.specs.declared.faults.Fault.{Fault}
-use Rattle.headings.specs.Parts.{Tabled, declared_in, joined_of, Defines}
-use Rattle.headings.proofs.FaultLaws.{joined_small, joined-clear}
+use Rattle.headings.specs.Parts.{Tabled, declared_in, number_in, first_of, joined_of, Defines}
+use Rattle.headings.proofs.FaultLaws.{first_small, first-verdict, joined_small}
 use Rattle.headings.proofs.TableLaws.{tabled-none, tabled-more}
-use Rattle.headings.proofs.Walks.{Walks, Meets, walks-start, walks-moves, walks-codes, walks-names, walks-defines, vars-over, vars-end, vars-breaks}
+use Rattle.tokens.specs.declared.Word.{Word}
+use Rattle.headings.specs.declared.walk.Walk.{Walk}
+use Rattle.headings.specs.declared.walk.Met.TheVariants.{Token, Over}
+use Rattle.headings.specs.Walk.{Goes, Short, Malformed}
+use Rattle.headings.proofs.Walks.{Walks, walks-start, walks-moves, walks-codes, walks-names, walks-defines, vars-over, vars-end, vars-breaks, meets-inside}
 use Rattle.headings.proofs.Judged.{Judges, judges-start, judges-moves, judges-codes, judges-names, judges-defines, verdict-breaks, samples-breaks}
 
--- A place in the definitions, with the table, the wanted wires that were named and the first fault so far. The code that waits is a part
--- of the dump.
-pub record Stands (dump table : List ℕ) (at line : ℕ) (stage : Stage) (place : Place) (from to named : ℕ) (fault : Fault) : Type 0 where
+-- A place in the definitions, with the table, the code that waits, the wanted wires that were named and the first fault so far.
+pub record Stands (dump table : List ℕ) (w : Walk) (code : List ℕ) (named : ℕ) (fault : Option Fault) : Type 0 where
   pub vars : List Var
-  pub walks : Walks dump at line stage place (take (to - from) (drop from dump)) vars
-  pub judges : Judges dump fault at line stage place (take (to - from) (drop from dump)) vars
+  pub walks : Walks dump w.at w.line w.stage w.place code vars
+  pub judges : Judges dump fault w.at w.line w.stage w.place code vars
   pub tabled : Tabled vars table
   pub counts : named ≡ named_of vars
-  pub faulty : fault.line ≤ length dump
-  pub starts : from ≤ to
-  pub ends : to ≤ length dump
+  pub faulty : IfSome fault (λ f. f.line ≤ length dump)
 
-pub stands-start : (dump : List ℕ) {table : List ℕ} {n : ℕ} {fault : Fault} → n ≡ 256 → table ≡ replicate n 0
-    → fault ≡ record { number = 0; line = 0 } → Stands dump table 0 0 Start Between 0 0 0 fault
-stands-start dump h e g =
+pub stands-start : (dump code : List ℕ) {table : List ℕ} {n : ℕ} → n ≡ 256 → table ≡ replicate n 0
+    → Stands dump table (record { at = 0; line = 0; stage = Start; place = Between }) code 0 None
+stands-start dump code h e =
     record {
       vars = [];
-      walks = walks-start dump [];
-      judges = subst (λ (f : Fault). Judges dump f 0 0 Start Between [] []) (sym g) (judges-start dump []);
+      walks = walks-start dump code;
+      judges = judges-start dump code;
       tabled = tabled-none _ _ h e;
       counts = refl;
-      faulty = rw g (omega arith);
-      starts = omega arith;
-      ends = omega arith;
+      faulty = tt;
     }
 
-module _ {dump table : List ℕ} {at line : ℕ} {stage : Stage} {place : Place} {cf ct named : ℕ} {fault : Fault}
-    (k : Stands dump table at line stage place cf ct named fault) where
+module _ {dump table : List ℕ} {w : Walk} {code : List ℕ} {named : ℕ} {fault : Option Fault}
+    (k : Stands dump table w code named fault) where
   -- Where the definitions are over.
-  pub stands-over : is_body stage && is_between place ≡ true
-      → Defines dump (record { at = at; line = line; over = true; wrong = false; fault = fault }) table
-  stands-over d =
-      let q : heading stage place (take (ct - cf) (drop cf dump)) k.vars ≡ body_at dump Between false =
-      over-body dump stage place (take (ct - cf) (drop cf dump)) k.vars d (vars-over k.walks d) in
-      record {
+  pub stands-over : {next : Walk} → Goes dump w Over next → Defines dump (Ok (record { at = next.at; line = next.line; fault = fault })) table
+  stands-over (d, e) =
+      let q : heading w.stage w.place code k.vars ≡ body_at dump Between false =
+      over-body dump w.stage w.place code k.vars d (vars-over k.walks d) in
+      rw e
+      (record {
         tabled = rw (vars-over k.walks d) k.tabled;
         inside = k.walks.within;
         small = k.walks.small;
         faulty = k.faulty;
-        over = λ e. (λ count. k.judges.verdict count ∙ rw q, k.judges.samples ∙ rw q);
-        short = λ e f. absurd (true≢false e);
-        wrong = λ e f. absurd (true≢false e);
-        told = λ e f. absurd (true≢false e);
-      }
+        verdict = λ count. k.judges.verdict count ∙ rw q;
+        samples = k.judges.samples ∙ rw q;
+      })
 
-  -- Where the dump ends inside them.
-  pub stands-short : is_body stage && is_between place ≡ false → tokens_from line (drop at dump) ≡ []
-      → Defines dump (record { at = at; line = line; over = false; wrong = false; fault = fault }) table
-  stands-short d e =
-      let q = ends-inside stage place (take (ct - cf) (drop cf dump)) k.vars unheard k.walks.stands d in
-      record {
-        tabled = rw (vars-end k.walks e) k.tabled;
-        inside = k.walks.within;
-        small = k.walks.small;
-        faulty = k.faulty;
-        over = λ f. absurd (true≢false (sym f));
-        short = λ f g. (λ count. k.judges.verdict count ∙ rw (e, q), k.judges.samples ∙ rw (words-none dump at line e));
-        wrong = λ f g. absurd (true≢false (sym g));
-        told = λ f g. absurd (true≢false (sym g));
-      }
-
-  module _ {from to on : ℕ} {r : Step} (m : Meets dump at line stage place from to on r) where
-    on-inside : on ≤ length dump
-    on-inside = let a = m.found.small in let b = m.found.some in let c = m.found.inside in omega arith
-
-    pub stands-moves : {st : Stage} {pl : Place} → r ≡ Moves st pl → Stands dump table to on st pl cf ct named fault
-    stands-moves e =
+  module _ {f : Fault} {line : ℕ} (j : f ≡ first_of fault (record { reason = DumpMalformed; line = line })) where
+    -- Where the dump ends inside them.
+    stands-short : Short dump w line → Defines dump (Err f) table
+    unfolding note
+    stands-short s =
+        let q = ends-inside w.stage w.place code k.vars unheard k.walks.stands s.goes in
         record {
-          vars = k.vars;
-          walks = walks-moves k.walks m e;
-          judges = judges-moves k.judges k.walks.stands m e;
-          tabled = k.tabled;
-          counts = k.counts;
-          faulty = k.faulty;
-          starts = k.starts;
-          ends = k.ends;
-        }
-
-    pub stands-codes : r ≡ Codes → Stands dump table to on stage VarName from to named fault
-    stands-codes e =
-        record {
-          vars = k.vars;
-          walks = walks-codes k.walks m e;
-          judges = judges-codes k.judges k.walks.stands m e;
-          tabled = k.tabled;
-          counts = k.counts;
-          faulty = k.faulty;
-          starts = let b = m.found.some in omega arith;
-          ends = m.found.inside;
-        }
-
-    pub stands-names : {wire n name : ℕ} {f : Fault} {t : List ℕ} → r ≡ Names → wire ≡ weight_of (take (to - from) (drop from dump))
-        → n ≡ fault_if (has_wire named wire) 21 → f ≡ joined_of fault n on → name ≡ laid 1 wire named
-        → t ≡ declared_in table (take (ct - cf) (drop cf dump)) wire → Stands dump t to on stage Close cf ct name f
-    stands-names {wire} {n} e w g j l d =
-        record {
-          vars = record { code = take (ct - cf) (drop cf dump); name = take (to - from) (drop from dump) } ∷ k.vars;
-          walks = walks-names k.walks m e;
-          judges = rw j (judges-names k.judges k.walks.stands m e (g ∙ rw (k.counts, w)));
-          tabled = rw (d, w) (tabled-more k.vars table (take (ct - cf) (drop cf dump)) (take (to - from) (drop from dump)) k.tabled);
-          counts = l ∙ rw (k.counts, w);
-          faulty = rw j (joined_small fault n on (length dump) k.faulty on-inside);
-          starts = k.starts;
-          ends = k.ends;
-        }
-
-    pub stands-defines : {n : ℕ} {f : Fault} → r ≡ Ends → n ≡ fault_if (not (eqb named all_wires)) 21 → f ≡ joined_of fault n on
-        → Stands dump table to on Body Close cf ct named f
-    stands-defines {n} e g j =
-        record {
-          vars = k.vars;
-          walks = walks-defines k.walks m e;
-          judges = rw j (judges-defines k.judges k.walks.stands m e (g ∙ rw k.counts));
-          tabled = k.tabled;
-          counts = k.counts;
-          faulty = rw j (joined_small fault n on (length dump) k.faulty on-inside);
-          starts = k.starts;
-          ends = k.ends;
+          tabled = rw (vars-end k.walks s.none) k.tabled;
+          faulty = rw j (first_small fault (record { reason = DumpMalformed; line = line }) (length dump) k.faulty s.within);
+          verdict = λ count.
+              k.judges.verdict count
+              ∙ rw (s.none, q, ← s.last, j) (first-verdict fault (record { reason = DumpMalformed; line = line }) [] count);
+          samples = k.judges.samples ∙ rw (words-none dump w.at w.line s.none);
         }
 
     -- Where a token is malformed.
-    pub stands-breaks : {f : Fault} → r ≡ Breaks → f ≡ joined_of fault 20 on
-        → Defines dump (record { at = to; line = on; over = false; wrong = true; fault = f }) table
-    stands-breaks e j =
+    stands-malformed : Malformed dump w line → Defines dump (Err f) table
+    stands-malformed b =
+        let m = b.met in
+        let within : line ≤ length dump = meets-inside m in
         record {
-          tabled = rw (vars-breaks k.walks m e) k.tabled;
-          inside = m.found.inside;
-          small = let a = m.found.small in let b = m.found.some in omega arith;
-          faulty = rw j (joined_small fault 20 on (length dump) k.faulty on-inside);
-          over = λ g. absurd (true≢false (sym g));
-          short = λ g h. absurd (true≢false h);
-          wrong = λ g h. (rw j (verdict-breaks k.judges k.walks.stands m e), samples-breaks k.judges k.walks.stands m e);
-          told = λ g h z. let w = (joined-clear fault 20 on (ap (λ (q : Fault). q.number) (sym j) ∙ z)).1 in omega arith;
+          tabled = rw (vars-breaks k.walks m refl) k.tabled;
+          faulty = rw j (first_small fault (record { reason = DumpMalformed; line = line }) (length dump) k.faulty within);
+          verdict = λ count. verdict-breaks k.judges k.walks.stands m refl count ∙ rw j;
+          samples = samples-breaks k.judges k.walks.stands m refl;
         }
+
+    pub stands-broken : Short dump w line ⊎ Malformed dump w line → Defines dump (Err f) table
+    stands-broken (inl s) = stands-short s
+    stands-broken (inr b) = stands-malformed b
+
+  module _ (word : Word) (step : Step) {next : Walk} (g : Goes dump w (Token word step) next) where
+    pub stands-moves : {st : Stage} {pl : Place} → step ≡ Moves st pl → Stands dump table next code named fault
+    stands-moves e =
+        rw (g.1, e)
+        (record {
+          vars = k.vars;
+          walks = walks-moves k.walks g.0 (ap Some e);
+          judges = judges-moves k.judges k.walks.stands g.0 (ap Some e);
+          tabled = k.tabled;
+          counts = k.counts;
+          faulty = k.faulty;
+        })
+
+    pub stands-codes : step ≡ Codes → Stands dump table next (slice_range dump word.from word.to) named fault
+    stands-codes e =
+        rw (g.1, e)
+        (record {
+          vars = k.vars;
+          walks = walks-codes k.walks g.0 (ap Some e);
+          judges = judges-codes k.judges k.walks.stands g.0 (ap Some e);
+          tabled = k.tabled;
+          counts = k.counts;
+          faulty = k.faulty;
+        })
+
+    pub stands-names : {wire name : ℕ} (n : Option Reason) {f : Option Fault} {t : List ℕ} → step ≡ Names
+        → wire ≡ weight_of (slice_range dump word.from word.to) → number_in n ≡ fault_if (has_wire named wire) 21
+        → f ≡ joined_of fault n word.line → name ≡ laid 1 wire named → t ≡ declared_in table code wire
+        → Stands dump t next code name f
+    stands-names {wire} n e v q j l d =
+        rw (g.1, e)
+        (record {
+          vars = record { code = code; name = slice_range dump word.from word.to } ∷ k.vars;
+          walks = walks-names k.walks g.0 (ap Some e);
+          judges = rw j (judges-names k.judges k.walks.stands g.0 n (ap Some e) (q ∙ rw (k.counts, v)));
+          tabled = rw (d, v) (tabled-more k.vars table code (slice_range dump word.from word.to) k.tabled);
+          counts = l ∙ rw (k.counts, v);
+          faulty = rw j (joined_small fault n word.line (length dump) k.faulty (meets-inside g.0));
+        })
+
+    pub stands-defines : (n : Option Reason) {f : Option Fault} → step ≡ Ends → number_in n ≡ fault_if (not (eqb named all_wires)) 21
+        → f ≡ joined_of fault n word.line → Stands dump table next code named f
+    stands-defines n e q j =
+        rw (g.1, e)
+        (record {
+          vars = k.vars;
+          walks = walks-defines k.walks g.0 (ap Some e);
+          judges = rw j (judges-defines k.judges k.walks.stands g.0 n (ap Some e) (q ∙ rw k.counts));
+          tabled = k.tabled;
+          counts = k.counts;
+          faulty = rw j (joined_small fault n word.line (length dump) k.faulty (meets-inside g.0));
+        })

@@ -1,67 +1,58 @@
 // The first fault of a dump: the earliest line, and the lowest number there.
 ghost use Rattle.std.specs.Prelude.{◌≡◌, eqb, not};
 ghost use Rattle.wires.specs.Wires.{has_wire, all_wires};
-ghost use Rattle.dumps.specs.Faults.{fault_if};
-ghost use Rattle.headings.specs.Parts.{no_fault, joined_of};
+ghost use Rattle.dumps.specs.Faults.{comes_first, fault_if};
+ghost use Rattle.headings.specs.Parts.{fault_meant, number_in, first_of, joined_of};
 
-pub const MALFORMED: u8 = 20;
+use ground::Reason;
+use wires::marks;
 
-pub const WIRES: u8 = 21;
-
-pub const TIME: u8 = 22;
-
-pub const VALUE: u8 = 23;
-
-// A fault with its line, counted from 0; number 0 is none.
-#[derive(Clone, Copy)]
+// A fault with its line, counted from 0.
+#[derive(Clone, Copy, Debug, PartialEq, Eq)]
 pub struct Fault {
-    pub number: u8,
+    pub reason: Reason,
     pub line: usize,
 }
 
-pub fn none() -> Fault
-    ensures { result ≡ no_fault }
+// Whether a fault comes before another, or is the same.
+fn comes_first(fault: Fault, other: Fault) -> bool
+    ensures { result ≡ comes_first (fault_meant fault) (fault_meant other) }
 {
-    Fault { number: 0, line: 0 }
+    fault.line < other.line
+        || (fault.line == other.line && u8::from(fault.reason) <= u8::from(other.reason))
 }
 
-// The first of a fault and another; number 0 is none.
-pub fn join(fault: Fault, number: u8, line: usize) -> Fault
-    ensures { result ≡ joined_of fault number line }
+// The first of a fault, if there is one, and another.
+pub fn first(fault: Option<Fault>, other: Fault) -> Fault
+    ensures { result ≡ first_of fault other }
 {
-    if number == 0 {
-        return fault;
+    match fault {
+        Some(fault) if comes_first(fault, other) => fault,
+        _ => other,
     }
-    if fault.number == 0 {
-        return Fault { number, line };
+}
+
+// The same, where there may be no other.
+#[tactic(auto, unfolding(crate::specs::Parts::joined_of))]
+pub fn join(fault: Option<Fault>, reason: Option<Reason>, line: usize) -> Option<Fault>
+    ensures { result ≡ joined_of fault reason line }
+{
+    match reason {
+        Some(reason) => Some(first(fault, Fault { reason, line })),
+        None => fault,
     }
-    if fault.line < line {
-        return fault;
-    }
-    if fault.line == line {
-        if fault.number <= number {
-            return fault;
-        }
-    }
-    Fault { number, line }
 }
 
 // A wanted name a second time.
-pub fn twice(named: u8, wire: u8) -> u8
-    ensures { result ≡ fault_if (has_wire named wire) 21 }
+pub fn twice(named: u8, wire: u8) -> Option<Reason>
+    ensures { number_in result ≡ fault_if (has_wire named wire) 21 }
 {
-    if wires::marks::has_wire(named, wire) {
-        return WIRES;
-    }
-    0
+    marks::has_wire(named, wire).then_some(Reason::WiresWrong)
 }
 
 // A wanted wire that was not named.
-pub fn missing(named: u8) -> u8
-    ensures { result ≡ fault_if (not (eqb named all_wires)) 21 }
+pub fn missing(named: u8) -> Option<Reason>
+    ensures { number_in result ≡ fault_if (not (eqb named all_wires)) 21 }
 {
-    if named == wires::marks::ALL {
-        return 0;
-    }
-    WIRES
+    (named != marks::ALL).then_some(Reason::WiresWrong)
 }

@@ -4,98 +4,72 @@
 pub mod faults;
 pub mod search;
 pub mod table;
+mod walk;
 
 ghost use Rattle.std.specs.Prelude.{◌≡◌, length};
 ghost use Rattle.headings.specs.Parts.{Defines};
 
 use faults::Fault;
-use sections::{Place, Stage, Step};
-use tokens::Found;
+use ground::Reason;
+use sections::Step;
+use walk::Met;
 use wires::marks;
 
 // A table of marks has an entry for each character.
 pub const CODES: usize = 256;
 
-// Where the definitions are left: the place in the dump with its line, how far they came, and the first fault.
-#[derive(Clone, Copy)]
+// Where the definitions end: the place in the dump with its line, and the first fault among them.
+#[derive(Clone, Copy, Debug, PartialEq, Eq)]
 pub struct Heading {
     pub at: usize,
     pub line: usize,
-    pub over: bool,
-    pub wrong: bool,
-    pub fault: Fault,
+    pub fault: Option<Fault>,
 }
 
-// Reads the definitions, and leaves the marks of every code of one character in the table.
-pub fn define(dump: &[u8], table: &mut [u8]) -> Heading
+// Reads the definitions, and leaves the marks of every code of one character in the table. Where the dump ends among them, or a token of
+// them is malformed, the first fault is the dump's.
+pub fn define(dump: &[u8], table: &mut [u8]) -> Result<Heading, Fault>
     requires { length table.old ≡ 256 }
     ensures { Defines dump.now result table.new }
 {
-    table::clear(table);
-    let mut at = 0;
-    let mut line = 0;
-    let mut stage = Stage::Start;
-    let mut place = Place::Between;
-    let mut code_from = 0;
-    let mut code_to = 0;
+    table.fill(0);
+    let mut walk = walk::START;
+    let mut code: &[u8] = &[];
     let mut named = 0;
-    let mut fault = faults::none();
-    loop {
-        if table::is_over(stage, place) {
-            return Heading {
-                at,
-                line,
-                over: true,
-                wrong: false,
-                fault,
-            };
-        }
-        let found = tokens::next(dump, at, line);
-        let Found::Word { from, to, line: on } = found else {
-            return Heading {
-                at,
-                line,
-                over: false,
-                wrong: false,
-                fault,
-            };
-        };
-        let step = sections::hear(stage, place, &dump[from..to]);
-        at = to;
-        line = on;
-        match step {
-            Step::Moves {
-                stage: next,
-                place: expected,
-            } => {
-                stage = next;
-                place = expected;
+    let mut fault = None;
+    'tokens: loop {
+        match walk.next(dump) {
+            Met::Token { word, step } => {
+                let text = &dump[word.from..word.to];
+                match step {
+                    Step::Moves { .. } => {}
+                    Step::Codes => code = text,
+                    Step::Names => {
+                        let wire = marks::wire_of(text);
+                        fault = faults::join(fault, faults::twice(named, wire), word.line);
+                        named = marks::lay(1, wire, named);
+                        table::declare(table, code, wire);
+                    }
+                    Step::Defines => {
+                        fault = faults::join(fault, faults::missing(named), word.line);
+                    }
+                }
             }
-            Step::Codes => {
-                code_from = from;
-                code_to = to;
-                place = Place::VarName;
+            Met::Over => {
+                return Ok(Heading {
+                    at: walk.at,
+                    line: walk.line,
+                    fault,
+                });
             }
-            Step::Names => {
-                let wire = marks::wire_of(&dump[from..to]);
-                fault = faults::join(fault, faults::twice(named, wire), on);
-                named = marks::lay(1, wire, named);
-                table::declare(table, &dump[code_from..code_to], wire);
-                place = Place::Close;
-            }
-            Step::Defines => {
-                fault = faults::join(fault, faults::missing(named), on);
-                stage = Stage::Body;
-                place = Place::Close;
-            }
-            Step::Breaks => {
-                return Heading {
-                    at,
-                    line,
-                    over: false,
-                    wrong: true,
-                    fault: faults::join(fault, faults::MALFORMED, on),
-                };
+            Met::Broken { line } => {
+                return Err(faults::first(
+                    fault,
+                    Fault {
+                        reason: Reason::DumpMalformed,
+                        line,
+                    },
+                ));
             }
         }
     }

@@ -4,57 +4,28 @@ ghost use Rattle.wires.specs.Wires.{weight_of, marks_by, marks_of};
 ghost use Rattle.dumps.specs.Defined.{vars_of};
 ghost use Rattle.headings.specs.Parts.{Tabled};
 
-use crate::table;
-use sections::{Place, Stage, Step};
-use tokens::{Found, same};
+use crate::walk;
+use crate::walk::Met;
+use sections::Step;
 use wires::marks;
 
 // The marks of a code, found by reading the definitions once more.
 fn search(dump: &[u8], code: &[u8]) -> u8
     ensures { result ≡ marks_of (vars_of dump.now) code.now }
 {
-    let mut at = 0;
-    let mut line = 0;
-    let mut stage = Stage::Start;
-    let mut place = Place::Between;
+    let mut walk = walk::START;
     let mut is_its = false;
     let mut so_far = 0;
-    loop {
-        if table::is_over(stage, place) {
-            return so_far;
-        }
-        let found = tokens::next(dump, at, line);
-        let Found::Word { from, to, line: on } = found else {
-            return so_far;
-        };
-        let step = sections::hear(stage, place, &dump[from..to]);
-        at = to;
-        line = on;
+    'tokens: while let Met::Token { word, step } = walk.next(dump) {
+        let text = &dump[word.from..word.to];
         match step {
-            Step::Moves {
-                stage: next,
-                place: expected,
-            } => {
-                stage = next;
-                place = expected;
-            }
-            Step::Codes => {
-                is_its = same(code, &dump[from..to]);
-                place = Place::VarName;
-            }
-            Step::Names => {
-                so_far = declare(is_its, so_far, &dump[from..to]);
-                place = Place::Close;
-            }
-            Step::Defines => {
-                stage = Stage::Body;
-                place = Place::Close;
-            }
-            Step::Breaks => {
-                return so_far;
-            }
+            Step::Codes => is_its = code == text,
+            Step::Names => so_far = declare(is_its, so_far, text),
+            Step::Moves { .. } => {}
+            Step::Defines => {}
         }
     }
+    so_far
 }
 
 // The marks with one more name, if the name has the code.
@@ -62,9 +33,10 @@ fn declare(is_its: bool, so_far: u8, name: &[u8]) -> u8
     ensures { result ≡ marks_by is_its (weight_of name.now) so_far }
 {
     if is_its {
-        return marks::mark(so_far, marks::wire_of(name));
+        marks::mark(so_far, marks::wire_of(name))
+    } else {
+        so_far
     }
-    so_far
 }
 
 // The marks of a code: from the table if it is one character, as nearly all are.
@@ -72,9 +44,8 @@ pub fn marks_of(dump: &[u8], table: &[u8], code: &[u8]) -> u8
     requires { Tabled (vars_of dump.now) table.now }
     ensures { result ≡ marks_of (vars_of dump.now) code.now }
 {
-    if code.len() == 1 {
-        let index = code[0] as usize;
-        return table[index];
+    match code {
+        [character] => table[usize::from(*character)],
+        _ => search(dump, code),
     }
-    search(dump, code)
 }

@@ -2,10 +2,11 @@
 use Prim.Native.Nat.{ℕ, suc, ◌+◌, ◌*◌, ◌/◌, ◌%◌, ◌<◌, ◌≤◌}
 use mathlib.Core.Bool.{true, true≢false, ◌&&◌}
 use mathlib.Core.List.{List, [], ◌∷◌, ◌++◌}
-use mathlib.Core.Path.{◌≡◌, refl}
+use mathlib.Core.Path.{◌≡◌, refl, ◌∙◌}
 use native.Mathlib.Omega.{arith}
 use native.Mathlib.Numerals.{add-one}
 use lib.ListN.{length, get_or, drop, set}
+use Rattle.std.specs.List.{fold}
 use lib.Seq.{drop-cons, sets}
 use borrow.Author.Tests.{ltb-true}
 use Rattle.ground.specs.Numbers.{byte_values}
@@ -69,17 +70,18 @@ two cs at h =
     rw (add-one at, e, drop-cons cs at 0 (omega arith), drop-cons cs (suc at) 0 (omega arith))
 
 -- One turn of the encoding: a byte's two characters are stored, and what is left is encoded after them.
-pub encode-turn : (bytes out : List ℕ) (to i b : ℕ) → i < length bytes → b ≡ get_or bytes i 0
-    → sets (set (set out to (glyph_of (b / 16))) (to + 1) (glyph_of (b % 16))) (to + 2) (text_of (drop (i + 1) bytes))
-    ≡ sets out to (text_of (drop i bytes))
-encode-turn bytes out to i b p e =
-    let e2 : to + 2 ≡ suc (suc to) = omega arith in
-    rw (e2, add-one to, add-one i, drop-cons bytes i 0 p, e)
+pub encode-turn : (bytes out : List ℕ) (at i b : ℕ) → i < length bytes → b ≡ get_or bytes i 0
+    → sets (set (set out (at + 2 * i) (glyph_of (b / 16))) (at + 2 * i + 1) (glyph_of (b % 16))) (at + 2 * (i + 1))
+    (text_of (drop (i + 1) bytes))
+    ≡ sets out (at + 2 * i) (text_of (drop i bytes))
+encode-turn bytes out at i b p e =
+    let e2 : at + 2 * (i + 1) ≡ suc (suc (at + 2 * i)) = omega arith in
+    rw (e2, add-one (at + 2 * i), add-one i, drop-cons bytes i 0 p, e)
 
--- One turn of the sum: a byte is added, and what is left is added after it.
-pub sum-turn : (bytes : List ℕ) (total i : ℕ) → i < length bytes
-    → ((total + get_or bytes i 0) % 256 + sum_of (drop (i + 1) bytes)) % 256 ≡ (total + sum_of (drop i bytes)) % 256
-sum-turn bytes total i p = rw (add-one i, drop-cons bytes i 0 p) (omega arith)
+-- Bytes added one after another, each sum modulo 256.
+pub fold-sum : (bs : List ℕ) (total : ℕ) → total < 256 → fold (λ t b. (t + b) % 256) total bs ≡ (total + sum_of bs) % 256
+fold-sum [] total h = omega arith
+fold-sum (b ∷ bs) total h = fold-sum bs ((total + b) % 256) (omega arith) ∙ omega arith
 
 -- The digits of bytes that follow each other.
 pub text-append : (xs bs : List ℕ) → text_of (xs ++ bs) ≡ text_of xs ++ text_of bs

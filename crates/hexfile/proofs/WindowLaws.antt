@@ -4,8 +4,9 @@ use mathlib.Core.Bool.{Bool, true, false, ◌&&◌, and_assoc, and-false, and-tr
 use mathlib.Core.List.{List, [], ◌∷◌, ◌++◌, append_assoc, append-nil}
 use mathlib.Core.Path.{◌≡◌, refl, ap, sym, ◌∙◌}
 use native.Mathlib.Omega.{arith}
+use Rattle.std.specs.List.{fold}
 use lib.ListN.{length, get_or, take, drop, set, length-drop, take-append-drop, drop_of_length-le}
-use lib.Seq.{drop-cons, take-suc-set, take_all, take-add, take_at, drop_at, take-take, take-append-le, length-take-le}
+use lib.Seq.{take-suc-set, take_all, take-add, take_at, drop_at, take-take, take-append-le, length-take-le}
 use Rattle.ground.proofs.Tests.{and_split}
 use Rattle.digits.specs.Digits.{is_digit}
 use Rattle.hexfile.specs.Pairs.{paired, pairs_of}
@@ -16,14 +17,13 @@ use Rattle.digits.proofs.DigitLaws.{value-digit}
 use Rattle.ground.proofs.Rows.{tail-whole}
 use Rattle.hexfile.proofs.PairLaws.{two}
 
--- One turn of the tests: a character is tested, and what is left after it.
-pub all-turn : (text : List ℕ) (all : Bool) (i : ℕ) {d : Bool} → i < length text → d ≡ is_digit (get_or text i 0)
-    → ((all && d) && all_digits (drop (suc i) text)) ≡ (all && all_digits (drop i text))
-all-turn text all i {d} h e = rw (and_assoc all d (all_digits (drop (suc i) text)), drop-cons text i 0 h, e)
+-- The test of each character in turn is the test of all.
+fold-digits : (text : List ℕ) (all : Bool) → fold (λ a c. a && is_digit c) all text ≡ (all && all_digits text)
+fold-digits [] all = sym (and-true all)
+fold-digits (c ∷ cs) all = fold-digits cs (all && is_digit c) ∙ and_assoc all (is_digit c) (all_digits cs)
 
-pub all_done : (text : List ℕ) (all : Bool) (i : ℕ) {whole : Bool} → length text ≤ i
-    → (all && all_digits (drop i text)) ≡ whole → all ≡ whole
-all_done text all i h e = sym (and-true all) ∙ (rw (drop_of_length-le text h) at e)
+pub digits_found : (r : Bool) (text : List ℕ) → r ≡ fold (λ a c. a && is_digit c) true text → r ≡ all_digits text
+digits_found r text e = e ∙ fold-digits text true
 
 -- Digits are tested part by part, and a second test of some of them tells nothing new.
 pub all_append : (xs ys : List ℕ) → all_digits (xs ++ ys) ≡ (all_digits xs && all_digits ys)

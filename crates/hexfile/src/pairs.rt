@@ -14,13 +14,7 @@ const BYTES: usize = 8;
 fn all_digits(text: &[u8]) -> bool
     ensures { result ≡ all_digits text.now }
 {
-    let mut all = true;
-    let mut i = 0;
-    while i < text.len() {
-        all = all & digits::is_digit(text[i]);
-        i += 1;
-    }
-    all
+    text.iter().fold(true, |all, &c| all & digits::is_digit(c))
 }
 
 // Whether the last sixteen characters are digits, or all where there are fewer.
@@ -43,10 +37,8 @@ fn join(text: &[u8], room: &mut [u8])
     requires { length text.now ≡ 2 * length room.old }
     ensures { room.new ≡ values_of text.now }
 {
-    let mut i = 0;
-    while i < room.len() {
-        room[i] = digits::value(text[2 * i]) * digits::BASE + digits::value(text[2 * i + 1]);
-        i += 1;
+    for (i, byte) in room.iter_mut().enumerate() {
+        *byte = digits::value(text[2 * i]) * digits::BASE + digits::value(text[2 * i + 1]);
     }
 }
 
@@ -60,9 +52,9 @@ fn join_first(text: &[u8], count: usize, room: &mut [u8])
     if text.len() < WINDOW {
         let n = 2 * count;
         join(&text[..n], &mut room[..count]);
-        return;
+    } else {
+        join(&text[..WINDOW], &mut room[..BYTES]);
     }
-    join(&text[..WINDOW], &mut room[..BYTES]);
 }
 
 // Puts the bytes of the pairs that the first `n` characters are at the start of `room`, and answers whether they are pairs of
@@ -75,18 +67,19 @@ pub fn decode(text: &[u8], n: usize, room: &mut [u8]) -> bool
     if n % 2 != 0 {
         return false;
     }
+    // Counted by hand: the last window, whole or not, is left to `join_first`, and two rows of unlike parts are walked.
     let mut from = 0;
     let mut at = 0;
     while n - from > WINDOW {
         let to = from + WINDOW;
         let end = at + BYTES;
-        if all_digits(&text[from..to]) {
-            join(&text[from..to], &mut room[at..end]);
-            from = to;
-            at = end;
-        } else {
+        let window = &text[from..to];
+        if !all_digits(window) {
             return false;
         }
+        join(window, &mut room[at..end]);
+        from = to;
+        at = end;
     }
     join_first(&text[from..], n / 2 - at, &mut room[at..]);
     ends_in_digits(&text[..n])
@@ -97,13 +90,9 @@ pub fn encode(bytes: &[u8], out: &mut [u8], at: usize)
     requires { at + 2 * length bytes.now ≤ length out.old }
     ensures { out.new ≡ sets out.old at (text_of bytes.now) }
 {
-    let mut to = at;
-    let mut i = 0;
-    while i < bytes.len() {
-        let byte = bytes[i];
+    for (i, &byte) in bytes.iter().enumerate() {
+        let to = at + 2 * i;
         out[to] = digits::high(byte);
         out[to + 1] = digits::low(byte);
-        to += 2;
-        i += 1;
     }
 }

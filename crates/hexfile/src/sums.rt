@@ -1,5 +1,5 @@
 // Sums of bytes modulo 256.
-ghost use Rattle.std.specs.Prelude.{◌≡◌, ◌+◌, ◌%◌, ◌≤◌, length, replicate};
+ghost use Rattle.std.specs.Prelude.{◌≡◌, ◌+◌, ◌%◌, ◌≤◌, length};
 ghost use Rattle.hexfile.specs.Pairs.{sum_of};
 ghost use Rattle.hexfile.specs.Promises.{SumsUp};
 
@@ -10,29 +10,9 @@ const GROUP: usize = 8;
 pub fn sum(start: u8, bytes: &[u8]) -> u8
     ensures { result ≡ (start + sum_of bytes.now) % 256 }
 {
-    let mut total = start;
-    let mut i = 0;
-    while i < bytes.len() {
-        total = added(total, bytes[i]);
-        i += 1;
-    }
-    total
-}
-
-fn added(total: u8, byte: u8) -> u8
-    ensures { result ≡ (total + byte) % 256 }
-{
-    ((total as u16 + byte as u16) % 256) as u8
-}
-
-fn clear(row: &mut [u8])
-    ensures { row.new ≡ replicate (length row.old) 0 }
-{
-    let mut i = 0;
-    while i < row.len() {
-        row[i] = 0;
-        i += 1;
-    }
+    bytes
+        .iter()
+        .fold(start, |total, &byte| total.wrapping_add(byte))
 }
 
 // Whether the first bytes of a room add up to 0 modulo 256. Those behind them are cleared, so that whole groups can be added.
@@ -41,13 +21,10 @@ pub fn sums_to_zero(room: &mut [u8], count: usize) -> bool
     ensures { SumsUp room.old count result room.new }
 {
     let end = count + GROUP;
-    clear(&mut room[count..end]);
+    room[count..end].fill(0);
     let mut total = 0;
-    let mut i = 0;
-    while i < count {
-        let to = i + GROUP;
-        total = sum(total, &room[i..to]);
-        i = to;
+    for i in (0..count).step_by(GROUP) {
+        total = sum(total, &room[i..i + GROUP]);
     }
     total == 0
 }

@@ -1,8 +1,8 @@
 -- What the operations promise, for every input and in any form of record: the whole reply, and what array and buffer hold at the end.
-use Rattle.std.specs.Prelude.{ℕ, Bool, true, false, List, ◌++◌, ◌≡◌, eqb, leb, length, drop}
+use Rattle.std.specs.Prelude.{ℕ, Bool, true, false, List, Result, ◌++◌, ◌≡◌, eqb, leb, length, drop}
 use Rattle.ground.specs.Kind.{kind_of, known}
 use Rattle.ground.specs.Verdict.{Verdict, accepted, refused, meant}
-use Rattle.ground.specs.declared.Reply.{Reply}
+use Rattle.ground.specs.declared.Refusal.{Refusal}
 use Rattle.forms.specs.Form.{Form}
 use Rattle.forms.specs.Reading.{Reading, bad, reading_of}
 use Rattle.forms.specs.Writing.{image_text, length_of, most_length}
@@ -23,7 +23,7 @@ unfoldable pub image_of : Form → ℕ → List ℕ → List ℕ → Reading
 image_of form part text array = image_by (known part) (sized part (length array)) (reading_of form (kind_of part).size text)
 
 -- Reading an image: its verdict, and the array that the text gives (Refusal numbers, 1, 5, 11 to 18; Image files).
-pub record ReadsImage (form : Form) (part : ℕ) (text array : List ℕ) (r : Reply) (array' : List ℕ) : Type 0 where
+pub record ReadsImage (form : Form) (part : ℕ) (text array : List ℕ) (r : Result ℕ Refusal) (array' : List ℕ) : Type 0 where
   pub reply : meant r ≡ verdict_of (image_of form part text array) (length text)
   pub kept : array' ≡ array_after (image_of form part text array) array
 
@@ -45,6 +45,6 @@ out_after form (accepted n) array out = image_text form array ++ drop n out
 out_after form (refused k p) array out = out
 
 -- Writing an image: its verdict, and the buffer with the fixed form at its start (Refusal numbers, 1, 5, 19; Image files).
-pub record WritesImage (form : Form) (part : ℕ) (array out : List ℕ) (r : Reply) (out' : List ℕ) : Type 0 where
+pub record WritesImage (form : Form) (part : ℕ) (array out : List ℕ) (r : Result ℕ Refusal) (out' : List ℕ) : Type 0 where
   pub reply : meant r ≡ write_verdict form part array out
   pub said : out' ≡ out_after form (write_verdict form part array out) array out

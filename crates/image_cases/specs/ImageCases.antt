@@ -1,9 +1,9 @@
 -- The bench cases of image files (document 01, Bench cases, P10 and P11), for an X4323 and for an X4283 (request 2026-01). Parts, sizes and
 -- rooms stand in them as numbers.
-use Rattle.std.specs.Prelude.{ℕ, ◌≤◌, List, [], ◌++◌, ◌≡◌, length, drop, replicate, set}
+use Rattle.std.specs.Prelude.{ℕ, ◌≤◌, List, [], ◌++◌, Result, ◌≡◌, length, drop, replicate, set}
 use Rattle.codes.specs.Codes.{codes_of}
 use Rattle.ground.specs.Verdict.{accepted, refused, meant}
-use Rattle.ground.specs.declared.Reply.{Reply}
+use Rattle.ground.specs.declared.Refusal.{Refusal}
 use Rattle.forms.specs.Reading.{taken, bad, reading_of}
 use Rattle.forms.specs.Writing.{image_text}
 use Rattle.intel.specs.Intel.{intel}
@@ -24,9 +24,9 @@ pub record ShownFor (part size room : ℕ) : Type 0 where
   pub read : reading_of intel size paper_text ≡ taken (paper_array size)
   pub tidied : shown_of part paper_text ≡ paper_text
   -- the same of the operations: 56 is the text's length
-  pub writes : (out out' : List ℕ) (r : Reply) → room ≤ length out → WritesImage intel part (paper_array size) out r out'
+  pub writes : (out out' : List ℕ) (r : Result ℕ Refusal) → room ≤ length out → WritesImage intel part (paper_array size) out r out'
       → (meant r ≡ accepted 56) × (out' ≡ paper_text ++ drop 56 out)
-  pub reads : (old array' : List ℕ) (r : Reply) → length old ≡ size → ReadsImage intel part paper_text old r array'
+  pub reads : (old array' : List ℕ) (r : Result ℕ Refusal) → length old ≡ size → ReadsImage intel part paper_text old r array'
       → (meant r ≡ accepted 56) × (array' ≡ paper_array size)
 
 -- The paper's image for the smaller part, and for the larger (Bench cases, P10; request 2026-01).
@@ -38,7 +38,7 @@ pub record P10 : Type 0 where
 pub record EmptyFor (part size : ℕ) : Type 0 where
   pub read : reading_of intel size [] ≡ bad 17 0
   pub tidied : shown_of part [] ≡ codes_of "17 0\n"
-  pub reads : (old array' : List ℕ) (r : Reply) → length old ≡ size → ReadsImage intel part [] old r array'
+  pub reads : (old array' : List ℕ) (r : Result ℕ Refusal) → length old ≡ size → ReadsImage intel part [] old r array'
       → (meant r ≡ refused 17 0) × (array' ≡ old)
 
 -- The empty text for the smaller part, and for the larger (Bench cases, P11; request 2026-01).

@@ -1,46 +1,17 @@
--- Written and read back through the door. It rests on the claim that it names.
-use Prim.Native.Nat.{ℕ}
-use mathlib.Core.List.{List}
-use mathlib.Core.Path.{◌≡◌, refl, sym, ◌∙◌}
-use lib.ListN.{length, take}
+-- Written and read back through the door. It rests on the claims that it names.
+use mathlib.Core.Path.{◌∙◌}
+use lib.ListN.{length}
 use borrow.Author.Tests.{eq-eqb}
-use Rattle.ground.specs.Verdict.{Verdict, accepted, refused, meant}
-use Rattle.ground.specs.declared.Reply.{Reply}
-use Rattle.ground.specs.declared.Reply.TheVariants.{Accepted, Refused}
-use Rattle.intel.specs.Intel.{intel}
-use Rattle.reader.specs.Answers.{verdict_of, array_after}
-use Rattle.image.specs.Promises.{image_of, ReadsImage, WritesImage}
-use Rattle.image_claims.specs.Images.{WriteThenRead, DoorTrip}
-
--- The reply that says a verdict.
-abbrev pub reply_of : Verdict → Reply
-reply_of (accepted n) = Accepted n
-reply_of (refused k p) = Refused k p
-
--- It means that verdict.
-pub reply-means : (v : Verdict) → meant (reply_of v) ≡ v
-unfolding meant
-reply-means (accepted n) = refl
-reply-means (refused k p) = refl
+use Rattle.image_claims.specs.Images.{IntelTrips, Lengths, DoorTrip}
+use Rattle.image_claims.proofs.Operations.{read-back}
 
 -- Through the door.
-pub door-from : WriteThenRead → DoorTrip
-door-from trip =
+pub door-from : IntelTrips → Lengths → DoorTrip
+door-from trips lengths =
     record {
       back = λ part array out numbers out' numbers' old numbers₂ array' numbers₂' r r₂ n b f w v o g q.
           let d = eq-eqb (length numbers) 2 f in
           let h = eq-eqb (length numbers₂) 2 g in
-          let text : List ℕ = take n out' in
-          let reading = image_of intel part text old in
-          let x : WritesImage intel part array out (Accepted n) out' =
-          record { reply = reply-means (accepted n) ∙ sym v; said = w.said ∙ rw d }
-          in
-          let y : ReadsImage intel part text old (reply_of (verdict_of reading (length text))) (array_after reading old) =
-          record { reply = reply-means (verdict_of reading (length text)); kept = refl }
-          in
-          let z = trip.back part array out out' old (array_after reading old) (Accepted n) (reply_of (verdict_of reading (length text)))
-          n b x (reply-means (accepted n)) o y
-          in
-          let t : verdict_of reading (length text) ≡ accepted n = sym (reply-means (verdict_of reading (length text))) ∙ z.reply in
-          (w.answer ∙ rw d, q.answer ∙ rw h, q.kept ∙ rw h z.same, w.reply ∙ rw (d, v), q.reply ∙ rw (h, t));
+          let t = read-back trips lengths part array out out' old n b v (w.said ∙ rw d) o in
+          (w.answer ∙ rw d, q.answer ∙ rw h, q.kept ∙ rw (h, t.0), w.reply ∙ rw (d, v), q.reply ∙ rw (h, t.0, t.1));
     }

@@ -5,7 +5,7 @@ use native.Mathlib.Omega.{arith}
 use Rattle.forms.specs.Writing.{lines_length}
 use Rattle.forms.proofs.Lengths.{length-image, length_most}
 use Rattle.intel.specs.Intel.{intel}
-use Rattle.formats.proofs.Named.{length-record, intel-measured}
+use Rattle.formats.specs.Measured.{length-record, intel-measured}
 use Rattle.round_trip.proofs.RoundTrip.{round_trip}
 use Rattle.intel_trip.proofs.IntelSound.{intel-sound}
 use Rattle.image_cases.proofs.ImageCases.{p10}
@@ -45,7 +45,7 @@ write-then-read = write-from intel-trips lengths
 
 -- Through the door.
 pub door-trip : DoorTrip
-door-trip = door-from write-then-read
+door-trip = door-from intel-trips lengths
 
 -- The program's habits.
 pub tidies : Tidies

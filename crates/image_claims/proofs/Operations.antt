@@ -10,12 +10,11 @@ use lib.ListN.{length, take, drop}
 use lib.Seq.{take_at}
 use borrow.Author.Tests.{eqb-true, eq-eqb}
 use Rattle.ground.specs.Kind.{kind_of, known}
-use Rattle.ground.specs.Verdict.{accepted, meant}
-use Rattle.ground.specs.declared.Reply.{Reply}
+use Rattle.ground.specs.Verdict.{accepted}
 use Rattle.forms.specs.Reading.{taken, reading_of}
 use Rattle.forms.specs.Writing.{image_text, length_of, most_length}
 use Rattle.intel.specs.Intel.{intel}
-use Rattle.image.specs.Promises.{sized, image_of, write_by, write_verdict, WritesImage}
+use Rattle.image.specs.Promises.{sized, image_of, write_by, write_verdict, out_after}
 use Rattle.image.proofs.Sizes.{kind-rows}
 use Rattle.round_trip.specs.Words.{all_bytes, Rows}
 use Rattle.image_claims.specs.Trip.{part_rows}
@@ -42,12 +41,8 @@ unfolding write_verdict
 written-says part array out n e =
     write-says (known part) (sized part (length array)) (leb (most_length intel (kind_of part).size) (length out)) (length_of intel array) n e
 
-module _ (lengths : Lengths) (part : ℕ) (array out out' : List ℕ) (r : Reply) (n : ℕ)
-    (w : WritesImage intel part array out r out') (e : meant r ≡ accepted n) where
-  -- The verdict of the writer is that acceptance.
-  said : write_verdict intel part array out ≡ accepted n
-  said = sym w.reply ∙ e
-
+module _ (lengths : Lengths) (part : ℕ) (array out out' : List ℕ) (n : ℕ) (said : write_verdict intel part array out ≡ accepted n)
+    (kept : out' ≡ out_after intel (write_verdict intel part array out) array out) where
   -- An accepted array is that of a known part, and has its size.
   written_known : known part ≡ true
   written_known = (written-says part array out n said).known
@@ -62,7 +57,7 @@ module _ (lengths : Lengths) (part : ℕ) (array out out' : List ℕ) (r : Reply
   -- The fixed form stands at the start of the buffer.
   written-text : take n out' ≡ image_text intel array
   written-text =
-      let s : out' ≡ image_text intel array ++ drop n out = w.said ∙ (rw said) in
+      let s : out' ≡ image_text intel array ++ drop n out = kept ∙ (rw said) in
       rw s (take_at (image_text intel array) (drop n out) n written-length)
 
 -- The fixed form of a part's array gives it, whatever is there before.
@@ -75,15 +70,21 @@ image-gives trips part array old k s b o =
     subst (λ (size : ℕ). reading_of intel size (image_text intel array) ≡ taken array) (kind-rows part) ((part-trip trips part).reads-back array r) in
     rw (k, eq-eqb (length old) (kind_of part).size o) g
 
+-- What was written, by the writer's verdict and what it leaves: read back it gives the array, and its length is the answer.
+pub read-back : IntelTrips → Lengths → (part : ℕ) (array out out' old : List ℕ) (n : ℕ) → all_bytes array ≡ true
+    → write_verdict intel part array out ≡ accepted n → out' ≡ out_after intel (write_verdict intel part array out) array out
+    → length old ≡ (kind_of part).size → (image_of intel part (take n out') old ≡ taken array) × (length (take n out') ≡ n)
+read-back trips lengths part array out out' old n b said kept o =
+    let t : take n out' ≡ image_text intel array = written-text lengths part array out out' n said kept in
+    let k = written_known lengths part array out out' n said kept in
+    let s = written-size lengths part array out out' n said kept in
+    (rw t (image-gives trips part array old k s b o), ap length t ∙ written-length lengths part array out out' n said kept)
+
 -- Written and read back, for any part: bytes that a write accepted are what a read of the text leaves.
 pub write-from : IntelTrips → Lengths → WriteThenRead
 write-from trips lengths =
     record {
       back = λ part array out out' old array' r r₂ n b w e o q.
-          let t : take n out' ≡ image_text intel array = written-text lengths part array out out' r n w e in
-          let l : length (take n out') ≡ n = ap length t ∙ written-length lengths part array out out' r n w e in
-          let k = written_known lengths part array out out' r n w e in
-          let s = written-size lengths part array out out' r n w e in
-          let g : image_of intel part (take n out') old ≡ taken array = rw t (image-gives trips part array old k s b o) in
-          record { same = q.kept ∙ (rw g); reply = q.reply ∙ (rw (g, l)) };
+          let g = read-back trips lengths part array out out' old n b (sym w.reply ∙ e) w.said o in
+          record { same = q.kept ∙ (rw g.0); reply = q.reply ∙ (rw (g.0, g.1)) };
     }

@@ -3,11 +3,11 @@
 -- For a person from the line: an array that was written as a text and is read again comes back byte for byte, whatever form of record the
 -- text is in, as long as that form keeps a few laws; Intel's form keeps them. The same is said of the two operations, of the two that other
 -- languages call, and of the program that puts a text into its fixed form.
-use Rattle.std.specs.Prelude.{ℕ, ◌+◌, ◌*◌, ◌≤◌, ◌<◌, true, List, [], ◌∷◌, ◌≡◌, length, take}
+use Rattle.std.specs.Prelude.{ℕ, ◌+◌, ◌*◌, ◌≤◌, ◌<◌, true, List, [], ◌∷◌, Result, ◌≡◌, length, take}
 use Rattle.ground.specs.Numbers.{small_size, large_size}
 use Rattle.ground.specs.Kind.{kind_of}
 use Rattle.ground.specs.Verdict.{accepted, meant}
-use Rattle.ground.specs.declared.Reply.{Reply}
+use Rattle.ground.specs.declared.Refusal.{Refusal}
 use Rattle.forms.specs.Form.{Form, row_size}
 use Rattle.forms.specs.Reading.{most_text}
 use Rattle.forms.specs.Writing.{closed, image_text, length_of, lines_length, most_length}
@@ -46,7 +46,7 @@ pub record Lengths : Type 0 where
 -- Written and read back, by the promises of the two operations alone, for any part: where a write of bytes is accepted with a length, a read
 -- of so much of the buffer leaves the same array, whatever stood there, and answers that length (demand 2; Image files).
 pub record WriteThenRead : Type 0 where
-  pub back : (part : ℕ) (array out out' old array' : List ℕ) (r r₂ : Reply) (n : ℕ) → all_bytes array ≡ true
+  pub back : (part : ℕ) (array out out' old array' : List ℕ) (r r₂ : Result ℕ Refusal) (n : ℕ) → all_bytes array ≡ true
       → WritesImage intel part array out r out' → meant r ≡ accepted n
       → length old ≡ (kind_of part).size → ReadsImage intel part (take n out') old r₂ array'
       → ReadBack array array' r₂ n

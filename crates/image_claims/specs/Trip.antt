@@ -1,8 +1,8 @@
 -- What the operations and the program keep of an image in Intel's form (demand 2; document 01, Image files).
-use Rattle.std.specs.Prelude.{ℕ, ◌+◌, ◌/◌, true, List, ◌≡◌, take}
+use Rattle.std.specs.Prelude.{ℕ, ◌+◌, ◌/◌, true, List, Result, ◌≡◌, take}
 use Rattle.ground.specs.Kind.{kind_of}
 use Rattle.ground.specs.Verdict.{accepted, meant}
-use Rattle.ground.specs.declared.Reply.{Reply}
+use Rattle.ground.specs.declared.Refusal.{Refusal}
 use Rattle.forms.specs.Form.{row_size}
 use Rattle.forms.specs.Reading.{most_text}
 use Rattle.intel.specs.Intel.{intel}
@@ -14,7 +14,7 @@ abbrev pub part_rows : ℕ → ℕ
 part_rows part = (kind_of part).size / row_size
 
 -- What a read leaves of an array that was written: the array is the same, and the text's length is answered (Image files).
-pub record ReadBack (array array' : List ℕ) (r : Reply) (n : ℕ) : Type 0 where
+pub record ReadBack (array array' : List ℕ) (r : Result ℕ Refusal) (n : ℕ) : Type 0 where
   pub same : array' ≡ array
   pub reply : meant r ≡ accepted n
 

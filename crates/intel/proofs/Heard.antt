@@ -8,6 +8,7 @@ use lib.Dec.{eqb}
 use lib.ListN.{length, get_or, take, drop, length-drop}
 use lib.Seq.{length-take-le, get_or-take, take-nil}
 use borrow.Author.Tests.{eq-eqb, ne_eqb, eqb-true}
+use Rattle.std.specs.Prelude.{Result, Ok, Err}
 use Rattle.digits.specs.Digits.{is_digit}
 use Rattle.hexfile.specs.Pairs.{paired, pairs_of, sums_to_zero}
 use Rattle.hexfile.specs.Promises.{Decodes, SumsUp}
@@ -20,37 +21,30 @@ use Rattle.forms.specs.Reading.{given_of, says_of}
 use Rattle.forms.specs.Parts.{Places, HearsLine}
 use Rattle.intel.specs.Parts.{Forms, record_says, Judges}
 use Rattle.forms.specs.declared.Says.{Says}
-use Rattle.forms.specs.declared.Says.TheVariants.{Ends, Faulty}
+use Rattle.forms.specs.declared.Says.TheVariants.{Ends}
+use Rattle.ground.specs.declared.Reason.{Reason}
+use Rattle.ground.specs.declared.Reason.TheVariants.{LineMalformed, ChecksumWrong, RecordType}
 
 -- Bytes of a type that is not taken.
-pub judge-untyped : (bs cells : List ℕ) → sums_to_zero bs ≡ true → typed bs ≡ false → Judges bs cells (Faulty 14) cells
+pub judge-untyped : (bs cells : List ℕ) → sums_to_zero bs ≡ true → typed bs ≡ false → Judges bs cells (Err RecordType) cells
 unfolding record_says
 judge-untyped bs cells s t = record { said = rw (s, t); kept = refl }
 
--- The end record has no count.
-end-count : (bs : List ℕ) → typed bs ≡ true → type_of bs ≡ 1 → count_of bs ≡ 0
-unfolding typed
-end-count bs t y =
-    let b : (eqb (count_of bs) 0 && eqb (record_address bs) 0) ≡ true = rw y at t in
-    eqb-true (count_of bs) 0 (and_split (eqb (count_of bs) 0) (eqb (record_address bs) 0) b).0
-
--- So it gives nothing, wherever.
-pub judge-end : (bs cells : List ℕ) → sums_to_zero bs ≡ true → typed bs ≡ true → type_of bs ≡ 1 → Judges bs cells Ends cells
-unfolding record_says
-judge-end bs cells s t y =
-    let n : count_of bs ≡ 0 = end-count bs t y in
-    let d : data_of bs ≡ [] = rw n in
-    record { said = rw (s, t, d, y, fresh-nil (drop (record_address bs) cells)); kept = refl }
+-- The end record has neither count nor address, so it gives nothing.
+pub judge-end : (bs cells : List ℕ) → sums_to_zero bs ≡ true → type_of bs ≡ 1 → count_of bs ≡ 0 → record_address bs ≡ 0
+    → Judges bs cells (Ok Ends) cells
+unfolding record_says typed
+judge-end bs cells s y n a = record { said = rw (s, y, n, a, fresh-nil cells); kept = refl }
 
 -- The bytes of a data record say what its data do at its address.
-pub judge-placed : (bs cells cells' : List ℕ) (r : Says) → sums_to_zero bs ≡ true → typed bs ≡ true
-    → (type_of bs ≡ 1 → ⊥) → length bs ≡ 5 + count_of bs
+pub judge-placed : (bs cells cells' : List ℕ) (r : Result Says Reason) → sums_to_zero bs ≡ true → type_of bs ≡ 0
+    → length bs ≡ 5 + count_of bs
     → Places (record_address bs) (take (length bs - 1 - 4) (drop 4 bs)) cells r cells' → Judges bs cells r cells'
-unfolding record_says
-judge-placed bs cells cells' r s t y m q =
+unfolding record_says typed
+judge-placed bs cells cells' r s y m q =
     let d : length bs - 1 - 4 ≡ count_of bs = omega arith in
     let p : Places (record_address bs) (data_of bs) cells r cells' = rw d at q in
-    record { said = rw (s, t, ne_eqb (type_of bs) 1 y) p.said; kept = p.kept }
+    record { said = rw (s, y) p.said; kept = p.kept }
 
 -- A count is a byte.
 count_fits : (cs : List ℕ) → paired cs ≡ true → get_or (pairs_of cs) 0 0 < 256
@@ -76,13 +70,10 @@ unformed-by-length line h =
 pub unformed : (line room : List ℕ) → well_formed line ≡ false → Forms line false room
 unformed line room h = record { said = sym h; bytes = λ t. absurd (let z : ◌≡◌ {A = ℕ} 0 1 = cc in omega arith) }
 
-short-unformed : (line room : List ℕ) → length line < 11 → Forms line false room
-short-unformed line room h = unformed line room (unformed-by-length line (λ _ e. omega arith))
-
-long-unformed : (line room : List ℕ) → 521 < length line → Forms line false room
+length-unformed : (line room : List ℕ) → (11 ≤ length line → length line ≤ 521 → ⊥) → Forms line false room
 unfolding bytes_in
-long-unformed line room h =
-    unformed line room (unformed-by-length line (λ p e. omega (arith, count_fits (drop 1 line) p)))
+length-unformed line room h =
+    unformed line room (unformed-by-length line (λ p e. h (omega arith) (omega (arith, count_fits (drop 1 line) p))))
 
 colon-unformed : (line room : List ℕ) → (get_or line 0 0 ≡ 0x3A → ⊥) → Forms line false room
 unfolding well_formed
@@ -120,11 +111,10 @@ line-tail (c ∷ cs) zero h = absurd (omega arith)
 line-tail (c ∷ cs) (suc n) h = let e : suc n - 1 ≡ n = omega arith in rw e
 
 module _ (text room : List ℕ) (n : ℕ) (h : n ≤ length text) where
-  pub short-line : n < 11 → Forms (take n text) false room
-  short-line k = let e = length-take-le n text h in short-unformed (take n text) room (omega arith)
-
-  pub long-line : 521 < n → Forms (take n text) false room
-  long-line k = let e = length-take-le n text h in long-unformed (take n text) room (omega arith)
+  pub length-line : (11 ≤ n → n ≤ 521 → ⊥) → Forms (take n text) false room
+  length-line k =
+      let e = length-take-le n text h in
+      length-unformed (take n text) room (λ a b. k (omega arith) (omega arith))
 
   pub colon-line : 11 ≤ n → (get_or text 0 0 ≡ 0x3A → ⊥) → Forms (take n text) false room
   colon-line k e = colon-unformed (take n text) room (rw (get_or-take n text 0 0 (omega arith)) e)
@@ -185,13 +175,13 @@ module _ (text room : List ℕ) (n : ℕ) (h : n ≤ length text) (f : Forms (ta
 
   -- A line of a wrong sum, and one that says what its bytes do.
   pub hear-unsound : (room' cells : List ℕ) {r : Bool} → SumsUp room (n / 2) r room' → r ≡ false
-      → HearsLine intel true (take n text) cells (Faulty 13) cells
+      → HearsLine intel true (take n text) cells (Err ChecksumWrong) cells
   unfolding says_of
   hear-unsound room' cells u t =
       let s : sums_to_zero (bytes_in (take n text)) ≡ false = rw line-bytes at (sym u.said ∙ t) in
       record { said = rw (sym f.said, s); kept = refl }
 
-  pub hear-formed : (room' cells cells' : List ℕ) (r : Says) {b : Bool} → SumsUp room (n / 2) b room'
+  pub hear-formed : (room' cells cells' : List ℕ) (r : Result Says Reason) {b : Bool} → SumsUp room (n / 2) b room'
       → Judges (take (n / 2) room') cells r cells' → HearsLine intel true (take n text) cells r cells'
   unfolding says_of given_of record_says
   hear-formed room' cells cells' r u j =
@@ -199,6 +189,6 @@ module _ (text room : List ℕ) (n : ℕ) (h : n ≤ length text) (f : Forms (ta
       record { said = rw (sym f.said) k.said; kept = k.kept }
 
 -- A line that is not well formed.
-pub hear-unformed : (line room cells : List ℕ) → Forms line false room → HearsLine intel true line cells (Faulty 12) cells
+pub hear-unformed : (line room cells : List ℕ) → Forms line false room → HearsLine intel true line cells (Err LineMalformed) cells
 unfolding says_of
 hear-unformed line room cells f = record { said = rw (sym f.said); kept = refl }

@@ -1,5 +1,6 @@
 -- What the inner functions promise each other.
-use Rattle.std.specs.Prelude.{ℕ, ◌/◌, Bool, true, List, ◌≡◌, eqb, length, take, drop}
+use Rattle.std.specs.Prelude.{ℕ, ◌/◌, Bool, true, List, Result, ◌≡◌, eqb, length, take, drop}
+use Rattle.ground.specs.declared.Reason.{Reason}
 use Rattle.hexfile.specs.Pairs.{sums_to_zero}
 use Rattle.cells.specs.Cells.{fresh_of}
 use Rattle.forms.specs.Reading.{Heard, says_meant, says_by, fits_in, placed_of}
@@ -24,6 +25,6 @@ record_says cells formed bs =
     (eqb (type_of bs) end_type)
 
 -- The bytes of a well-formed line whose checksum is right: what they say, and the cells after them.
-pub record Judges (bs cells : List ℕ) (r : Says) (cells' : List ℕ) : Type 0 where
+pub record Judges (bs cells : List ℕ) (r : Result Says Reason) (cells' : List ℕ) : Type 0 where
   pub said : says_meant r ≡ record_says cells true bs
   pub kept : cells' ≡ cells_by (says_meant r) cells (placed_of (record_address bs) (data_of bs) cells) cells'

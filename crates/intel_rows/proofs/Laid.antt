@@ -1,28 +1,16 @@
 -- Laws of a record laid over a buffer. Assumes nothing.
-use Prim.Native.Nat.{ℕ, ◌+◌, ◌*◌, ◌-◌, ◌/◌, ◌%◌, ◌<◌}
+use Prim.Native.Nat.{ℕ, ◌+◌, ◌*◌, ◌-◌, ◌%◌}
 use mathlib.Core.List.{List, [], ◌∷◌, ◌++◌, append_assoc}
 use mathlib.Core.Path.{◌≡◌, ◌∙◌}
 use native.Mathlib.Omega.{arith}
-use native.Mathlib.Nat.{zero-add}
-use native.Mathlib.Numerals.{add-one}
-use lib.ListN.{length, set}
+use lib.ListN.{length}
 use lib.Seq.{sets}
 use Rattle.ground.proofs.Rows.{sets-append}
 use Rattle.hexfile.specs.Pairs.{text_of, sum_of, check_of}
 use Rattle.hexfile.proofs.PairLaws.{length-text_of, text-append, sum-append}
 use Rattle.forms.specs.Writing.{closed}
 use Rattle.intel.specs.Intel.{fields_of, record_line}
-use Rattle.intel_rows.specs.Parts.{head_of, tail_of, PutsHead}
-
--- A record's colon and head, as the code takes its bytes, are what the head promises: its remainders lose nothing.
-pub head-laid : (count address type : ℕ) (out : List ℕ) (at : ℕ) {h out' : List ℕ} {r : ℕ} → address < 65536
-    → h ≡ count ∷ address / 256 % 256 ∷ address % 256 ∷ type ∷ []
-    → out' ≡ sets (set out at 58) (at + 1) (text_of h) → r ≡ (0 + sum_of h) % 256
-    → PutsHead count address type out at r out'
-head-laid count address type out at {h} p e f g =
-    let b : address / 256 % 256 ≡ address / 256 = omega arith in
-    let k : h ≡ head_of count address type = e ∙ rw b in
-    record { said = rw (f, k, add-one at); sum = g ∙ rw (k, zero-add) }
+use Rattle.intel_rows.specs.Parts.{head_of, tail_of}
 
 -- A record's head, data and tail laid one after the other are its line.
 line-laid : (address type : ℕ) (bs out : List ℕ) (at : ℕ) {next sum : ℕ} → next ≡ at + 9 + 2 * length bs

@@ -1,7 +1,7 @@
 // Intel's hexadecimal object format: the record of a row and the end record, written as lines.
 #![tactic(auto)]
 
-ghost use Rattle.std.specs.Prelude.{◌≡◌, [], ◌+◌, ◌-◌, ◌%◌, ◌≤◌, ◌<◌, length};
+ghost use Rattle.std.specs.Prelude.{◌≡◌, [], ◌+◌, ◌≤◌, ◌<◌, length};
 ghost use Rattle.std.proofs.lemmas.List.Edits.{sets};
 ghost use Rattle.forms.specs.Writing.{closed};
 ghost use Rattle.intel.specs.Intel.{data_type, end_type, record_line};
@@ -17,25 +17,14 @@ pub const END_LENGTH: usize = 12;
 // Those of a record before its data.
 const HEAD_LENGTH: usize = 9;
 
-// The byte that brings a sum to 0 modulo 256.
-fn check(sum: u8) -> u8
-    ensures { result ≡ (256 - sum) % 256 }
-{
-    ((256 - sum as u16) % 256) as u8
-}
-
 // Writes a record as far as its data over `out` from `at` on, and answers what its bytes add up to.
 fn put_head(count: u8, address: usize, kind: u8, out: &mut [u8], at: usize) -> u8
     requires address_bound { address < 65536 }
     requires at_in_bounds { at + 9 ≤ length out.old }
     ensures { PutsHead count address kind out.old at result out.new }
 {
-    let head = [
-        count,
-        (address / 256 % 256) as u8,
-        (address % 256) as u8,
-        kind,
-    ];
+    let [high, low] = (address as u16).to_be_bytes();
+    let head = [count, high, low, kind];
     out[at] = intel::COLON;
     pairs::encode(&head, out, at + 1);
     sums::sum(0, &head)
@@ -46,35 +35,19 @@ fn put_tail(sum: u8, out: &mut [u8], at: usize)
     requires { at + 3 ≤ length out.old }
     ensures { out.new ≡ sets out.old at (tail_of sum) }
 {
-    let tail = [check(sum)];
-    pairs::encode(&tail, out, at);
+    pairs::encode(&[sum.wrapping_neg()], out, at);
     out[at + 2] = lines::LINE_FEED;
-}
-
-// A row's bytes apart from the row.
-fn copied(row: &[u8]) -> [u8; forms::ROW]
-    requires { length row.now ≡ 16 }
-    ensures { result ≡ row.now }
-{
-    let mut bytes = [0; forms::ROW];
-    let mut i = 0;
-    while i < forms::ROW {
-        bytes[i] = row[i];
-        i += 1;
-    }
-    bytes
 }
 
 // Writes a row's record as a line over `out` from `at` on. Its digits are made from a copy, which no store to `out` can change, so
 // that compilers make all of them at once; the copy comes after a store, so that they leave the test for a blank row out of it.
-pub fn put_record(address: usize, row: &[u8], out: &mut [u8], at: usize)
+pub fn put_record(address: usize, row: &[u8; forms::ROW], out: &mut [u8], at: usize)
     requires address_bound { address < 65536 }
-    requires row_len { length row.now ≡ 16 }
     requires at_in_bounds { at + 44 ≤ length out.old }
     ensures { out.new ≡ sets out.old at (closed (record_line address data_type row.now)) }
 {
     let sum = put_head(forms::ROW as u8, address, intel::DATA, out, at);
-    let bytes = copied(row);
+    let bytes = *row;
     let from = at + HEAD_LENGTH;
     pairs::encode(&bytes, out, from);
     put_tail(sums::sum(sum, &bytes), out, from + 2 * forms::ROW);

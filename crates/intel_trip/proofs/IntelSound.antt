@@ -8,7 +8,7 @@ use lib.Dec.{eqb}
 use borrow.Author.Tests.{eqb-true}
 use Rattle.ground.proofs.Tests.{and_split}
 use Rattle.intel.specs.Intel.{data_type, end_type, bytes_in, count_of, record_address, type_of, data_of, type_by, typed, record_line, intel}
-use Rattle.formats.proofs.Named.{intel-measured}
+use Rattle.formats.specs.Measured.{intel-measured}
 use Rattle.round_trip.specs.Sound.{Sound}
 use Rattle.intel_trip.proofs.Records.{record-row, record-end}
 use Rattle.intel_trip.proofs.RecordsBack.{line-back, data-bytes}

@@ -1,23 +1,23 @@
 -- Laws of what is kept while a dump is judged token after token, at the start and at the end. Assumes nothing.
 use Prim.Native.Nat.{ℕ, ◌≤◌}
-use mathlib.Core.Bool.{Bool, true, false}
+use mathlib.Core.Bool.{Bool, true, false, not, true≢false}
 use mathlib.Core.List.{List, []}
 use mathlib.Core.Path.{◌≡◌, refl, ap, sym, ◌∙◌}
 use native.Mathlib.Omega.{arith}
-use lib.Dec.{eqb}
 use lib.ListN.{length, drop}
-use borrow.Author.Tests.{eqb-true}
+use Rattle.std.specs.Prelude.{Option, Result, Some, None, IfSome}
+use Rattle.std.specs.Option.{is_some}
 use Rattle.ground.specs.Verdict.{meant}
-use Rattle.ground.specs.declared.Reply.{Reply}
-use Rattle.tokens.specs.Tokens.{words_of, last_line}
+use Rattle.ground.specs.declared.Reason.{Reason}
+use Rattle.ground.specs.declared.Refusal.{Refusal}
+use Rattle.tokens.specs.Tokens.{words_of}
 use Rattle.dumps.specs.Defined.{body_at}
 use Rattle.dumps.specs.Samples.{samples_in}
-use Rattle.dumps.specs.Faults as dumped
-use Rattle.dumps.specs.Faults.{note, faults_of, verdict_by, dump_verdict}
+use Rattle.dumps.specs.Faults.{faults_of, verdict_by, dump_verdict}
 use Rattle.headings.specs.declared.Heading.{Heading}
 use Rattle.headings.specs.declared.faults.Fault.{Fault}
-use Rattle.headings.specs.Parts.{Defines, joined_of}
-use Rattle.headings.proofs.FaultLaws.{joined-verdict, joined_small, joined-clear}
+use Rattle.headings.specs.Parts.{Opens, Fails, joined_of, noted}
+use Rattle.headings.proofs.FaultLaws.{joined-clear}
 use Rattle.changes.specs.declared.Mode.{Mode}
 use Rattle.changes.specs.declared.Mode.TheVariants.{Between}
 use Rattle.changes.specs.Parts.{place_of}
@@ -28,9 +28,8 @@ use Rattle.judging.specs.Kept.{Kept}
 use Rattle.judging.proofs.CountLaws.{later-samples}
 
 -- Where the definitions are over nothing was heard.
-pub kept-start : (dump table : List ℕ) (r : Heading) → Defines dump r table → r.over ≡ true
-    → Kept dump r.at r.line r.fault Between nothing_heard
-kept-start dump table r d o =
+pub kept-start : (dump table : List ℕ) (r : Heading) → Opens dump r table → Kept dump r.at r.line r.fault Between nothing_heard
+kept-start dump table r d =
     record {
       inside = d.inside;
       small = d.small;
@@ -39,53 +38,50 @@ kept-start dump table r d o =
       lines = omega arith;
       unbegun = λ e. refl;
       fits = λ e. omega arith;
-      verdict = (d.over o).0;
-      samples = λ e. omega (arith, later-samples (body_at dump (place_of Between) false) (words_of (drop r.at dump)) 0 refl, ap length (d.over o).1);
+      verdict = d.verdict;
+      samples = λ e. omega (arith, later-samples (body_at dump (place_of Between) false) (words_of (drop r.at dump)) 0 refl, ap length d.samples);
     }
 
--- It stands no further than the two.
-pub first_small : (p : Fault) (n line most : ℕ) (first : Fault) → first ≡ joined_of p n line → p.line ≤ most → line ≤ most
-    → first.line ≤ most
-first_small p n line most first e h k = rw e (joined_small p n line most h k)
-
 -- As long as there is no fault, the samples are fewer than the characters and the time together.
-pub counts-small : (dump : List ℕ) (at line : ℕ) (fault : Fault) (mode : Mode) (heard : Heard) → Kept dump at line fault mode heard
-    → length dump ≤ 9223372036854775808 → (n on : ℕ) (first : Fault) → first ≡ joined_of fault n on
-    → (heard.lines ≤ 9223372036854775808) × (eqb first.number 0 ≡ true → heard.samples ≤ most_counted)
+pub counts-small : (dump : List ℕ) (at line : ℕ) (fault : Option Fault) (mode : Mode) (heard : Heard) → Kept dump at line fault mode heard
+    → length dump ≤ 9223372036854775808 → (n : Option Reason) (on : ℕ) (first : Option Fault) → first ≡ joined_of fault n on
+    → (heard.lines ≤ 9223372036854775808) × (first ≡ None → heard.samples ≤ most_counted)
 counts-small dump at line fault mode heard k m n on first e =
     let i = k.inside in
     let l = k.lines in
     let t = k.early in
-    let clear : first.number ≡ 0 → fault.number ≡ 0 = λ z. (joined-clear fault n on (ap (λ (f : Fault). f.number) (sym e) ∙ z)).0 in
-    (omega arith, λ z. omega (arith, k.fits (clear (eqb-true first.number 0 z))))
+    let clear : first ≡ None → fault ≡ None = λ z. (joined-clear fault n on (sym e ∙ z)).0 in
+    (omega arith, λ z. omega (arith, k.fits (clear z)))
 
 -- The reply by the first fault and the samples is the dump's.
-count-free : (line n x y : ℕ) (b : Bool) → eqb n 0 ≡ b → (n ≡ 0 → x ≡ y)
-    → verdict_by (dumped.note_by b line n []) x ≡ verdict_by (dumped.note_by b line n []) y
-count-free line n x y true e h = ap (λ (z : ℕ). verdict_by [] z) (h (eqb-true n 0 e))
-count-free line n x y false e h = refl
+count-free : (fault : Option Fault) (x y : ℕ) → (fault ≡ None → x ≡ y) → verdict_by (noted fault []) x ≡ verdict_by (noted fault []) y
+count-free None x y h = ap (λ (z : ℕ). verdict_by [] z) (h refl)
+count-free (Some f) x y h = refl
 
-pub judged : (dump : List ℕ) (fault : Fault) (samples : ℕ) (r : Reply)
-    → ((count : ℕ) → verdict_by (faults_of dump) count ≡ verdict_by (note fault.line fault.number []) count)
-    → (fault.number ≡ 0 → samples ≡ length (samples_in dump))
-    → meant r ≡ verdict_by (note fault.line fault.number []) samples → Judges dump r
-unfolding dump_verdict note
+pub judged : (dump : List ℕ) (fault : Option Fault) (samples : ℕ) (r : Result ℕ Refusal)
+    → ((count : ℕ) → verdict_by (faults_of dump) count ≡ verdict_by (noted fault []) count)
+    → (fault ≡ None → samples ≡ length (samples_in dump))
+    → meant r ≡ verdict_by (noted fault []) samples → Judges dump r
+unfolding dump_verdict
 judged dump fault samples r v h e =
-    record {
-      reply =
-          e ∙ count-free fault.line fault.number samples (length (samples_in dump)) (eqb fault.number 0) refl h
-          ∙ sym (v (length (samples_in dump)));
-    }
+    record { reply = e ∙ count-free fault samples (length (samples_in dump)) h ∙ sym (v (length (samples_in dump))) }
 
--- Where the definitions do not end, the dump has no sample.
-module _ (dump table : List ℕ) (h : Heading) (d : Defines dump h table) (o : h.over ≡ false) (r : Reply) where
-  pub judged-wrong : h.wrong ≡ true → meant r ≡ verdict_by (note h.fault.line h.fault.number []) 0 → Judges dump r
-  judged-wrong w e = judged dump h.fault 0 r (d.wrong o w).0 (λ z. sym (ap length (d.wrong o w).1)) e
+-- Where the definitions do not end, their fault is the dump's.
+pub judged-undefined : (dump table : List ℕ) (f : Fault) (r : Result ℕ Refusal) → Fails dump f table
+    → meant r ≡ verdict_by (noted (Some f) []) 0 → Judges dump r
+judged-undefined dump table f r d e = judged dump (Some f) 0 r d.verdict (λ z. cc) e
 
-  pub judged-short : (last : ℕ) (fault : Fault) → h.wrong ≡ false → last ≡ last_line dump → fault ≡ joined_of h.fault 20 last
-      → meant r ≡ verdict_by (note fault.line fault.number []) 0 → Judges dump r
-  judged-short last fault w l g e =
-      judged dump fault 0 r
-      (λ n. (d.short o w).0 n ∙ joined-verdict h.fault 20 (last_line dump) [] n
-      ∙ ap (λ (f : Fault). verdict_by (note f.line f.number []) n) (sym (g ∙ ap (joined_of h.fault 20) l)))
-      (λ z. sym (ap length (d.short o w).1)) e
+-- A bound that is raised.
+pub first-within : (q : Option Fault) (n m : ℕ) → n ≤ m → IfSome q (λ f. f.line ≤ n) → IfSome q (λ f. f.line ≤ m)
+first-within None n m h k = k
+first-within (Some f) n m h k = omega arith
+
+-- What `is_none` answers.
+pub none-told : (q : Option Fault) (b : Bool) → is_some q ≡ not b → b ≡ true → q ≡ None
+none-told None b e t = refl
+none-told (Some f) true e t = absurd (true≢false e)
+none-told (Some f) false e t = absurd (true≢false (sym t))
+
+pub told-none : (q : Option Fault) (b : Bool) → is_some q ≡ not b → q ≡ None → b ≡ true
+told-none q true e n = refl
+told-none q false e n = absurd (true≢false (sym e ∙ ap is_some n))

@@ -4,17 +4,18 @@ use mathlib.Core.Bool.{Bool, true, false}
 use mathlib.Core.List.{List}
 use mathlib.Core.Path.{◌≡◌, refl, sym, ◌∙◌}
 use native.Mathlib.Omega.{arith}
-use lib.Dec.{eqb, ltb}
+use lib.Dec.{ltb}
 use lib.ListN.{length}
 use borrow.Author.Tests.{lt-ltb, lt-leb, ne_eqb}
+use Rattle.std.specs.Prelude.{Option, Some, None}
 use Rattle.ground.specs.Cases.{odd}
 use Rattle.sections.specs.Sections.{times, puts}
 use Rattle.wires.specs.Wires.{bit_by, laid}
 use Rattle.wires.specs.Values.{unfit}
 use Rattle.dumps.specs.Samples.{repeats_of}
-use Rattle.dumps.specs.Faults.{fault_if, note, late_of}
+use Rattle.dumps.specs.Faults.{fault_if, late_of}
 use Rattle.headings.specs.declared.faults.Fault.{Fault}
-use Rattle.headings.specs.Parts.{no_fault}
+use Rattle.headings.specs.Parts.{number_in, no_fault}
 use Rattle.headings.proofs.FaultLaws.{join-none}
 use Rattle.changes.specs.declared.Mode.{Mode}
 use Rattle.changes.specs.declared.Mode.TheVariants.{Between}
@@ -31,7 +32,7 @@ use Rattle.judging.specs.Kept.{Kept, KeptOn}
 use Rattle.judging.proofs.Turns.{turn-value, turn-time}
 
 -- Every wire takes a 0 and a 1.
-plain_fits : (c marks : ℕ) → c / 2 ≡ 0x18 → 0 ≡ fault_if (unfit c marks) 23
+plain_fits : (c marks : ℕ) → c / 2 ≡ 0x18 → number_in None ≡ fault_if (unfit c marks) 23
 unfolding unfit
 plain_fits c marks h =
     rw (ne_eqb c 0x78 (λ e. absurd (omega arith)), ne_eqb c 0x58 (λ e. absurd (omega arith)), ne_eqb c 0x7A (λ e. absurd (omega arith)), ne_eqb c 0x5A (λ e. absurd (omega arith)))
@@ -81,18 +82,18 @@ module _ (dump : List ℕ) (from given at line lines time samples : ℕ) (p : Pa
           further = omega arith;
           two = t;
           kept =
-              turn-value dump at line no_fault Between heard p.kept s.from to on s.word (Value c marks) c marks
-              (means-value _ c marks refl ∙ sym (rw b s.said)) refl 0 given no_fault (plain_fits c marks h) (join-none no_fault 0 on refl) (laid-given marks given g);
+              turn-value dump at line no_fault Between heard p.kept s.from to on s.word (Some (Value c marks)) c marks
+              (means-value _ c marks refl ∙ sym (rw b s.said)) refl None (plain_fits c marks h) given no_fault (sym (join-none no_fault on)) (laid-given marks given g);
         }
 
     late-none : (t : ℕ) → time < t
-        → 0 ≡ late_of lines time given t
+        → number_in None ≡ late_of lines time given t
     late-none t h =
         let two = p.two in
         rw (lt-ltb 0 lines (omega arith), lt-leb t time h, ne_eqb lines 1 (λ e. absurd (omega arith)))
 
     taken-plain : (t : ℕ) → t - time ≤ 100000
-        → record { lines = lines + 1; time = t; given = given; samples = samples + 1 } ≡ taken_by (eqb no_fault.number 0) heard t
+        → record { lines = lines + 1; time = t; given = given; samples = samples + 1 } ≡ taken_by true heard t
     taken-plain t h =
         let two = p.two in
         let r : repeats_of (t - time) ≡ 0 = omega arith in
@@ -109,14 +110,14 @@ module _ (dump : List ℕ) (from given at line lines time samples : ℕ) (p : Pa
           further = omega arith;
           two = omega arith;
           kept =
-              turn-time dump at line no_fault Between heard p.kept s.from to on s.word (Time t) t
-              (means-time _ t refl ∙ sym (rw b s.said)) refl 0 no_fault _ (late-none t h) (join-none no_fault 0 on refl) (taken-plain t d);
+              turn-time dump at line no_fault Between heard p.kept s.from to on s.word (Some (Time t)) t
+              (means-time _ t refl ∙ sym (rw b s.said)) refl None (late-none t h) true (λ z. refl) no_fault _ (sym (join-none no_fault on)) (taken-plain t d);
         }
 
   -- A time above the one before, and its token's length, as they are seen.
-  module _ (past : Past) (r : Seen) (k : Skims dump at line past) (m : SeesTime dump past.at r) (above : time < r.time) where
+  module _ (past : Past) (r : Seen) (k : Skims dump at line past) (m : SeesTime dump past.at (Some r)) (above : time < r.time) where
     sees : Sees dump at line (past.at + r.length) past.line (times r.time)
-    sees = seen-time dump at line past k r m (λ (e : r.length ≡ 0). omega (arith, m.none e))
+    sees = seen-time dump at line past k r m
 
     pub passing-inside : past.at + r.length ≤ length dump
     passing-inside = sees.word.inside
@@ -128,29 +129,11 @@ module _ (dump : List ℕ) (from given at line lines time samples : ℕ) (p : Pa
         → Passing dump from given (past.at + r.length) past.line (lines + 1) r.time (samples + 1)
     passing-time d = passing-seen (past.at + r.length) past.line r.time sees above d
 
--- Where there is no fault it does not matter where it would stand.
-pub kept-other : (dump : List ℕ) (at line : ℕ) (f g : Fault) (mode : Mode) (heard : Heard) → Kept dump at line f mode heard
-    → f.number ≡ 0 → g.number ≡ 0 → g.line ≤ length dump → Kept dump at line g mode heard
-unfolding note
-kept-other dump at line f g mode heard k y z l =
-    record {
-      inside = k.inside;
-      small = k.small;
-      faulty = l;
-      early = k.early;
-      lines = k.lines;
-      unbegun = k.unbegun;
-      fits = λ e. k.fits y;
-      verdict = λ count. rw z (rw y at (k.verdict count));
-      samples = λ e. k.samples y;
-    }
-
-pub kept-plain : (dump : List ℕ) (at line : ℕ) (fault : Fault) (mode : Mode) (heard : Heard) → Kept dump at line fault mode heard
-    → fault.number ≡ 0 → mode ≡ Between → Kept dump at line no_fault Between heard
-kept-plain dump at line fault mode heard k z e = kept-other dump at line fault no_fault Between heard (rw e at k) z refl (omega arith)
-
 -- So plain tokens are passed behind any number of tokens without a fault.
-pub passed_on : (dump : List ℕ) (at line : ℕ) (fault : Fault) (mode : Mode) (heard : Heard) (r : Plain) → Kept dump at line fault mode heard
-    → fault.number ≡ 0 → mode ≡ Between → KeptOn dump at no_fault Between r → KeptOn dump at fault mode r
-passed_on dump at line fault mode heard r k z e p =
-    rw e (record { from = p.from; kept = kept-other dump r.at r.line no_fault fault Between r.heard p.kept refl z k.faulty })
+pub kept-plain : (dump : List ℕ) (at line : ℕ) (fault : Option Fault) (mode : Mode) (heard : Heard) → Kept dump at line fault mode heard
+    → fault ≡ None → mode ≡ Between → Kept dump at line no_fault Between heard
+kept-plain dump at line fault mode heard k z e = rw (z, e) at k
+
+pub passed_on : (dump : List ℕ) (at : ℕ) (fault : Option Fault) (mode : Mode) (r : Plain)
+    → fault ≡ None → mode ≡ Between → KeptOn dump at no_fault Between r → KeptOn dump at fault mode r
+passed_on dump at fault mode r z e p = rw (z, e) p

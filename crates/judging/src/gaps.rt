@@ -9,10 +9,7 @@ pub const MOST_ELAPSED: u64 = limits::MOST_ELAPSED as u64;
 fn repeats(gap: u64) -> u64
     ensures { result ≡ repeats_of gap }
 {
-    if gap == 0 {
-        return 0;
-    }
-    (gap - 1) / MOST_ELAPSED
+    gap.saturating_sub(1) / MOST_ELAPSED
 }
 
 // The repeats before a time line; the first has none.
@@ -20,11 +17,10 @@ fn repeats_to(begun: bool, before: u64, time: u64) -> u64
     ensures { result ≡ repeats_of (gap_by begun before time) }
 {
     if begun {
-        if before < time {
-            return repeats(time - before);
-        }
+        repeats(time.saturating_sub(before))
+    } else {
+        0
     }
-    0
 }
 
 // The samples with those of one time line more, where there was no fault.
@@ -33,7 +29,8 @@ pub fn counted(sound: bool, begun: bool, before: u64, time: u64, samples: usize)
     ensures { result ≡ counted_by sound samples (repeats_of (gap_by begun before time) + 1) }
 {
     if sound {
-        return samples + (repeats_to(begun, before, time) as usize + 1);
+        samples + (repeats_to(begun, before, time) as usize + 1)
+    } else {
+        samples
     }
-    samples
 }

@@ -3,27 +3,26 @@
 
 mod gaps;
 
-ghost use Rattle.std.specs.Prelude.{◌≡◌, true, [], ◌≤◌, length};
+ghost use Rattle.std.specs.Prelude.{◌≡◌, true, [], ◌≤◌, length, IfSome};
 ghost use Rattle.wires.specs.Wires.{all_wires};
 ghost use Rattle.ground.specs.Verdict.{meant};
 ghost use Rattle.tokens.specs.Tokens.{last_line};
 ghost use Rattle.dumps.specs.Defined.{vars_of};
-ghost use Rattle.dumps.specs.Faults.{note, verdict_by};
-ghost use Rattle.headings.specs.Parts.{Defines, Tabled, joined_of, no_fault};
+ghost use Rattle.dumps.specs.Faults.{verdict_by};
+ghost use Rattle.headings.specs.Parts.{Opens, Tabled, joined_of, no_fault, noted};
 ghost use Rattle.changes.specs.declared.Mode.TheVariants.{Between};
 ghost use Rattle.judging.specs.Promises.{Judges};
 ghost use Rattle.judging.specs.Parts.{most_counted, taken_by};
 ghost use Rattle.judging.specs.Kept.{Kept, KeptOn};
 
 use changes::{Change, Mode};
-use ground::Reply;
+use ground::{Reason, Refusal, Reply};
 use headings::faults::Fault;
 use headings::{Heading, faults};
-use tokens::Found;
 use wires::{marks, times};
 
 // The time lines and values so far: how many time lines, the latest time, the wires that have a value, and the samples.
-#[derive(Clone, Copy)]
+#[derive(Clone, Copy, Debug, PartialEq, Eq)]
 pub struct Heard {
     pub lines: usize,
     pub time: u64,
@@ -40,37 +39,37 @@ pub const UNHEARD: Heard = Heard {
 };
 
 // Where plain tokens end: the place, its line, and what was heard up to there.
-#[derive(Clone, Copy)]
+#[derive(Clone, Copy, Debug, PartialEq, Eq)]
 struct Plain {
     at: usize,
     line: usize,
     heard: Heard,
 }
 
-// The reply by the first fault.
-fn reply_of(fault: Fault, samples: usize) -> Reply
-    requires { fault.line ≤ 9223372036854775808 }
-    ensures { meant result ≡ verdict_by (note fault.line fault.number []) samples }
+// The reply by the first fault, if there is one.
+fn reply_of(fault: Option<Fault>, samples: usize) -> Reply
+    requires { IfSome fault (λ f. f.line ≤ 9223372036854775808) }
+    ensures { meant result ≡ verdict_by (noted fault []) samples }
 {
-    if fault.number == 0 {
-        return Reply::Accepted(samples);
-    }
-    Reply::Refused {
-        number: fault.number,
-        place: fault.line + 1,
+    match fault {
+        Some(Fault { reason, line }) => Err(Refusal {
+            reason,
+            place: line + 1,
+        }),
+        None => Ok(samples),
     }
 }
 
 // The first of a fault and one at the end of the dump, whose line is looked for only then.
-fn join_end(dump: &[u8], fault: Fault, number: u8) -> Fault
-    requires { fault.line ≤ length dump.now }
-    ensures value { result ≡ joined_of fault number (last_line dump.now) }
-    ensures line_in_bounds { result.line ≤ length dump.now }
+fn join_end(dump: &[u8], fault: Option<Fault>, reason: Option<Reason>) -> Option<Fault>
+    requires { IfSome fault (λ f. f.line ≤ length dump.now) }
+    ensures value { result ≡ joined_of fault reason (last_line dump.now) }
+    ensures line_in_bounds { IfSome result (λ f. f.line ≤ length dump.now) }
 {
-    if number == 0 {
-        return fault;
+    match reason {
+        Some(_) => faults::join(fault, reason, tokens::last_line(dump)),
+        None => fault,
     }
-    faults::join(fault, number, tokens::last_line(dump))
 }
 
 // Passes plain tokens while all wires have values and there is no fault: values of 0 and 1, and times above the one before that make one
@@ -105,7 +104,9 @@ fn pass_plain(dump: &[u8], table: &[u8], from: usize, on: usize, heard: Heard) -
             if first != times::HASH {
                 break;
             }
-            let seen = glances::time_at(dump, begins);
+            let Some(seen) = glances::time_at(dump, begins) else {
+                break;
+            };
             let now = seen.time;
             if now <= time {
                 break;
@@ -138,7 +139,7 @@ fn pass(
     table: &[u8],
     at: usize,
     line: usize,
-    fault: Fault,
+    fault: Option<Fault>,
     mode: Mode,
     heard: Heard,
 ) -> Plain
@@ -146,26 +147,20 @@ fn pass(
     requires kept { Kept dump.now at line fault mode heard }
     ensures { KeptOn dump.now at fault mode result }
 {
-    match mode {
-        Mode::Between => {
-            if fault.number == 0 {
-                if heard.given == marks::ALL {
-                    if heard.lines >= 2 {
-                        return pass_plain(dump, table, at, line, heard);
-                    }
-                }
-            }
-            Plain { at, line, heard }
-        }
-        Mode::Dumped => Plain { at, line, heard },
-        Mode::Skipped => Plain { at, line, heard },
+    if matches!(mode, Mode::Between)
+        && fault.is_none()
+        && heard.given == marks::ALL
+        && heard.lines >= 2
+    {
+        pass_plain(dump, table, at, line, heard)
+    } else {
+        Plain { at, line, heard }
     }
 }
 
 // Judges what follows the definitions.
 fn judge_body(dump: &[u8], table: &[u8], heading: Heading) -> Reply
-    requires defines { Defines dump.now heading table.now }
-    requires over_value { heading.over ≡ true }
+    requires { Opens dump.now heading table.now }
     ensures { Judges dump.now result }
 {
     let mut at = heading.at;
@@ -176,31 +171,27 @@ fn judge_body(dump: &[u8], table: &[u8], heading: Heading) -> Reply
     loop {
         let plain = pass(dump, table, at, line, fault, mode, heard);
         heard = plain.heard;
-        let found = tokens::next(dump, plain.at, plain.line);
-        let Found::Word { from, to, line: on } = found else {
-            let number = lapses::at_end(mode, heard.lines, heard.given);
-            return reply_of(join_end(dump, fault, number), heard.samples);
+        let Some(word) = tokens::next(dump, plain.at, plain.line) else {
+            let reason = lapses::at_end(mode, heard.lines, heard.given);
+            return reply_of(join_end(dump, fault, reason), heard.samples);
         };
-        let change = changes::change_of(dump, table, mode, heard.lines > 0, &dump[from..to]);
-        at = to;
-        line = on;
+        at = word.to;
+        line = word.line;
+        let token = &dump[word.from..word.to];
+        let Some(change) = changes::change_of(dump, table, mode, heard.lines > 0, token) else {
+            return reply_of(faults::join(fault, Some(Reason::DumpMalformed), line), 0);
+        };
         match change {
             Change::Time(time) => {
-                let number = lapses::at_time(heard.lines, heard.time, heard.given, time);
-                fault = faults::join(fault, number, on);
-                heard = take_time(heard, time, fault.number == 0);
+                let reason = lapses::at_time(heard.lines, heard.time, heard.given, time);
+                fault = faults::join(fault, reason, line);
+                heard = take_time(heard, time, fault.is_none());
             }
             Change::Value { character, marks } => {
-                fault = faults::join(fault, lapses::at_value(character, marks), on);
+                fault = faults::join(fault, lapses::at_value(character, marks), line);
                 heard.given = marks::lay(1, marks, heard.given);
             }
-            Change::Moves(next) => {
-                mode = next;
-            }
-            Change::Breaks => {
-                fault = faults::join(fault, faults::MALFORMED, on);
-                return reply_of(fault, 0);
-            }
+            Change::Moves(next) => mode = next,
         }
     }
 }
@@ -225,16 +216,8 @@ pub fn judge(dump: &[u8]) -> Reply
     ensures { Judges dump.now result }
 {
     let mut table = [0u8; headings::CODES];
-    let heading = headings::define(dump, &mut table);
-    if heading.over {
-        return judge_body(dump, &table, heading);
+    match headings::define(dump, &mut table) {
+        Ok(heading) => judge_body(dump, &table, heading),
+        Err(fault) => reply_of(Some(fault), 0),
     }
-    let fault = heading.fault;
-    if heading.wrong {
-        return reply_of(fault, 0);
-    }
-    reply_of(
-        faults::join(fault, faults::MALFORMED, tokens::last_line(dump)),
-        0,
-    )
 }

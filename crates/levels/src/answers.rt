@@ -5,6 +5,7 @@ ghost use Rattle.levels.specs.Level.{scl_of, sda_of, wp_of, vcc_of, pin_by, answ
 use ground::{cases, kinds};
 use part::state::State;
 
+// Each level bit has a name of its own, as document 01 gives it; one function for all four would want the bit at every call.
 pub fn scl(level: u8) -> bool
     ensures { result ≡ scl_of level }
 {
@@ -41,23 +42,17 @@ pub fn line(level: u8, own: bool) -> bool
 pub fn pin(high: bool, reset: bool) -> bool
     ensures { result ≡ pin_by high reset }
 {
-    if high {
-        return reset;
-    }
-    !reset
+    reset == high
 }
 
 // The answer byte of a state.
+#[tactic(auto, unfolding(crate::specs::Level::answer_of))]
 pub fn answer(s: State) -> u8
     ensures { result ≡ answer_of s }
 {
-    let timers = s.timers;
-    let device = s.device;
-    let talk = device.talk;
-    let chip = s.chip;
-    let kind = kinds::kind_of(chip.part);
-    let own = cases::worth(talk.own, 1);
-    let reset = cases::worth(pin(kind.high, timers.reset), 2);
-    let writes = cases::worth(0 < timers.write, 4);
+    let kind = kinds::kind_of(s.chip.part);
+    let own = cases::worth(s.device.talk.own, 1);
+    let reset = cases::worth(pin(kind.high, s.timers.reset), 2);
+    let writes = cases::worth(0 < s.timers.write, 4);
     own + reset + writes
 }

@@ -1,41 +1,33 @@
--- Laws of the samples' verdict and of the searches. Assumes nothing.
-use Prim.Native.Nat.{ℕ, suc, ◌+◌, ◌<◌, ◌≤◌}
+-- Laws of the samples' verdict. Assumes nothing.
+use Prim.Native.Nat.{ℕ, ◌+◌, ◌≤◌, max}
 use mathlib.Core.List.{List, [], ◌∷◌}
+use mathlib.Core.Logic.{◌⊎◌, inl, inr}
+use lib.ListN.{length}
 use mathlib.Core.Path.{◌≡◌, refl}
 use native.Mathlib.Omega.{arith}
-use lib.Dec.{leb}
-use lib.ListN.{length, get_or, drop, drop_of_length-le}
-use lib.Seq.{drop-cons}
-use borrow.Author.Count.{below_more}
 use borrow.Author.Tests.{le-leb}
+use Rattle.std.specs.List.{fold}
 use Rattle.ground.specs.Numbers.{most_elapsed, most_level}
 use Rattle.ground.specs.Verdict.{Verdict}
-use Rattle.limits.specs.Samples.{sample_by, samples_of}
-use Rattle.limits.specs.Search.{AtMost}
+use Rattle.limits.specs.Samples.{samples_of}
 
--- One sample judged: what the rest says stands behind it.
-pub samples-turn : (es ls : List ℕ) (i : ℕ) (v : Verdict) → i < length es → i < length ls
-    → samples_of i (drop i es) (drop i ls) v
-    ≡ sample_by (leb (get_or es i 0) most_elapsed) (leb (get_or ls i 0) most_level) i (samples_of (i + 1) (drop (suc i) es) (drop (suc i) ls) v)
-samples-turn es ls i v h k = rw (drop-cons es i 0 h, drop-cons ls i 0 k)
+-- The largest of a number and a row is no less than the number.
+least-fold : (xs : List ℕ) (a : ℕ) → a ≤ fold max a xs
+least-fold [] a = omega arith
+least-fold (x ∷ xs) a = let h = least-fold xs (max a x) in omega (arith, h)
 
--- Nothing is left to judge past the rows' end.
-pub samples-done : (es ls : List ℕ) (i : ℕ) (v : Verdict) → length es ≤ i → samples_of i (drop i es) (drop i ls) v ≡ v
-samples-done es ls i v h = rw (drop_of_length-le es h)
+-- Where a row is at its end nothing is left to judge.
+pub samples-end : (es ls : List ℕ) (i : ℕ) (v : Verdict) → (length es ≡ 0) ⊎ (length ls ≡ 0) → samples_of i es ls v ≡ v
+samples-end [] ls i v h = refl
+samples-end (e ∷ es) [] i v h = refl
+samples-end (e ∷ es) (l ∷ ls) i v h = elim h [ inl z ↦ absurd (omega (arith, z)) | inr z ↦ absurd (omega (arith, z)) ]
 
--- Rows in which nothing is too large have no faulty sample.
-pub samples-clean : (es ls : List ℕ) (i a b : ℕ) (v : Verdict) → AtMost es a → AtMost ls b → a ≤ most_elapsed → b ≤ most_level → samples_of i es ls v ≡ v
-samples-clean [] ls i a b v x y h k = refl
-samples-clean (e ∷ es) [] i a b v x y h k = refl
-samples-clean (e ∷ es) (l ∷ ls) i a b v x y h k =
-    let p : e ≤ a = x.each 0 (omega arith) in
-    let q : l ≤ b = y.each 0 (omega arith) in
+-- Rows of which the largest is within its bound have no faulty sample.
+pub samples-clean : (es ls : List ℕ) (i a b : ℕ) (v : Verdict) → fold max a es ≤ most_elapsed → fold max b ls ≤ most_level → samples_of i es ls v ≡ v
+samples-clean [] ls i a b v h k = refl
+samples-clean (e ∷ es) [] i a b v h k = refl
+samples-clean (e ∷ es) (l ∷ ls) i a b v h k =
+    let p = least-fold es (max a e) in
+    let q = least-fold ls (max b l) in
     rw (le-leb e most_elapsed (omega (arith, p, h)), le-leb l most_level (omega (arith, q, k)))
-    (samples-clean es ls (i + 1) a b v (record { each = λ n z. x.each (suc n) (omega arith) }) (record { each = λ n z. y.each (suc n) (omega arith) }) h k)
-
-no_less : (a b c : ℕ) → a ≤ b → b ≤ c → a ≤ c
-no_less a b c h k = omega arith
-
--- One element more in the search.
-pub most-more : (xs : List ℕ) (i m n : ℕ) → ((j : ℕ) → j < i → get_or xs j 0 ≤ m) → m ≤ n → get_or xs i 0 ≤ n → (j : ℕ) → j < i + 1 → get_or xs j 0 ≤ n
-most-more xs i m n all h k = below_more (λ (j : ℕ). get_or xs j 0 ≤ n) i (λ j z. no_less (get_or xs j 0) m n (all j z) h) k
+    (samples-clean es ls (i + 1) (max a e) (max b l) v h k)

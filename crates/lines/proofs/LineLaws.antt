@@ -5,8 +5,10 @@ use mathlib.Core.List.{List, [], ◌∷◌, ◌++◌}
 use mathlib.Core.Path.{◌≡◌, refl, ap, sym, ◌∙◌}
 use native.Mathlib.Omega.{arith}
 use lib.Dec.{eqb}
-use lib.ListN.{length, get_or, take, drop, length-drop, drop_of_length-le}
-use lib.Seq.{drop-cons, drop-drop, get_or-take, get_or-drop, length-take-le, take-length}
+use Rattle.std.specs.Prelude.{cond, not}
+use Rattle.std.specs.List.{fold, prefix_len}
+use lib.ListN.{length, get_or, take, drop, length-append, length-drop, drop_of_length-le}
+use lib.Seq.{drop-cons, drop-drop, get_or-take, get_or-drop, length-take-le, take-append-le, take-length, take_all, drop_at}
 use borrow.Author.Tests.{eq-eqb, ne_eqb}
 use Rattle.lines.specs.Lines.{line_feed, carriage_return, join_by, lines_of, first_line, trim_by, trimmed, line_step_of, line_at, no_line}
 use Rattle.lines.specs.Parts.{feed_in, Skips}
@@ -101,12 +103,23 @@ first_past (suc k) (c ∷ cs) h e =
     rw (t.0, first-join c (lines_of cs)) (omega arith)
 
 -- So a line ends where it does from behind them.
-pub skip-window : (text : List ℕ) (at i w : ℕ) {r : Bool} → i + w ≤ length text
-    → r ≡ feed_in (take (i + w - i) (drop i text)) → r ≡ false → Skips text at i → Skips text at (i + w)
-skip-window text at i w h e f s =
-    let m : i + w - i ≡ w = omega arith in
-    let n = first_past w (drop i text) (simp length-drop (omega arith)) (rw m at (sym e ∙ f)) in
-    record { inside = h; ends = s.ends ∙ (let k = rw drop-drop at n in omega arith) }
+pub skip_part : (text part rest : List ℕ) (at i k : ℕ) {r : Bool} → part ++ rest ≡ drop i text → i ≤ length text → k ≤ length part
+    → r ≡ feed_in (take k part) → r ≡ false → Skips text at i → Skips text at (i + k)
+skip_part text part rest at i k d h m e f s =
+    let l : length part + length rest ≡ length text - i = rw (← (length-append part rest), d) (length-drop i text) in
+    let t : take k (drop i text) ≡ take k part = rw (← d) (take-append-le k part rest m) in
+    let n = first_past k (drop i text) (simp length-drop (omega arith)) (ap feed_in t ∙ (sym e ∙ f)) in
+    record { inside = omega arith; ends = s.ends ∙ (let p = rw drop-drop at n in omega arith) }
+
+-- The same of a whole window, and what is left behind it.
+pub window_more : (text window rest : List ℕ) (at i : ℕ) {r : Bool} → window ++ rest ≡ drop i text → length window ≡ 16
+    → r ≡ feed_in window → r ≡ false → Skips text at i → Skips text at (i + 16)
+window_more text window rest at i d n e f s =
+    skip_part text window rest at i 16 d s.inside (omega arith) (e ∙ ap feed_in (sym (take_all 16 window (omega arith)))) f s
+
+pub window_left : (text window rest : List ℕ) (i : ℕ) → window ++ rest ≡ drop i text → length window ≡ 16 → rest ≡ drop (i + 16) text
+window_left text window rest i d n =
+    sym (drop_at window rest 16 n) ∙ (ap (λ (l : List ℕ). drop 16 l) d ∙ drop-drop 16 i text)
 
 -- What is trimmed is the line, or all of it but its last character.
 pub trim-none : (l : List ℕ) → (get_or l (length l - 1) 0 ≡ carriage_return → ⊥) → trimmed l ≡ l
@@ -183,13 +196,29 @@ pub step_end : (text : List ℕ) (at : ℕ) → length text ≤ at → no_line �
 unfolding line_step_of
 step_end text at h = rw (drop_of_length-le text h)
 
--- One turn of the search for a line feed: a character is tested, and what is left after it.
-pub feed-turn : (text : List ℕ) (any : Bool) (i : ℕ) → i < length text
-    → ((any || eqb (get_or text i 0) line_feed) || feed_in (drop (suc i) text)) ≡ (any || feed_in (drop i text))
-feed-turn text any i h =
-    rw (or_assoc any (eqb (get_or text i 0) line_feed) (feed_in (drop (suc i) text)), drop-cons text i 0 h)
+-- The search for a line feed, from what was found before on.
+fold-feed : (xs : List ℕ) (any : Bool) → fold (λ b c. b || eqb c line_feed) any xs ≡ (any || feed_in xs)
+fold-feed [] any = sym (or-false any)
+fold-feed (c ∷ cs) any = fold-feed cs (any || eqb c line_feed) ∙ or_assoc any (eqb c line_feed) (feed_in cs)
 
--- Past the characters nothing is left to search.
-pub feed-done : (text : List ℕ) (any : Bool) (i : ℕ) {whole : Bool} → length text ≤ i
-    → (any || feed_in (drop i text)) ≡ whole → any ≡ whole
-feed-done text any i h e = sym (or-false any) ∙ (rw (drop_of_length-le text h) at e)
+pub feed_found : (r : Bool) (xs : List ℕ) → r ≡ fold (λ any c. any || eqb c line_feed) false xs → r ≡ feed_in xs
+feed_found r xs e = e ∙ fold-feed xs false
+
+-- The first line is what stands before the first line feed.
+prefix-by : (b : Bool) (c n : ℕ) (ls : List (List ℕ)) → n ≡ length (first_line ls)
+    → cond (not b) (1 + n) 0 ≡ length (first_line (join_by b c ls))
+prefix-by true c n ls h = refl
+prefix-by false c n ls h = rw (first-join c ls, h) (omega arith)
+
+first-prefix : (xs : List ℕ) → prefix_len (λ c. not (eqb c line_feed)) xs ≡ length (first_line (lines_of xs))
+first-prefix [] = refl
+first-prefix (c ∷ cs) = prefix-by (eqb c line_feed) c _ (lines_of cs) (first-prefix cs)
+
+pub first_left : (text : List ℕ) (from r : ℕ) → r ≡ prefix_len (λ c. not (eqb c line_feed)) (take (length text - from) (drop from text))
+    → (r ≡ length (first_line (lines_of (drop from text)))) × (r ≤ length text - from)
+first_left text from r e =
+    let left = drop from text in
+    let n = length-drop from text in
+    let w : take (length text - from) left ≡ left = rw (← n) (take-length left) in
+    let h : r ≡ length (first_line (lines_of left)) = (rw w at e) ∙ first-prefix left in
+    (h, omega (arith, first-length left))

@@ -1,7 +1,6 @@
 -- A text and its lines (document 01, Image files).
-use Rattle.std.specs.Prelude.{ℕ, ◌+◌, ◌-◌, Bool, true, false, List, [], ◌∷◌, eqb, length, get_or, take}
+use Rattle.std.specs.Prelude.{ℕ, ◌+◌, ◌-◌, Bool, true, false, Option, Some, None, List, [], ◌∷◌, eqb, length, get_or, take}
 use Rattle.lines.specs.declared.Line.{Line}
-use Rattle.lines.specs.declared.Line.TheVariants.{At, End}
 
 -- The character that ends a line (Image files, a line runs to).
 abbrev pub line_feed : ℕ
@@ -42,9 +41,9 @@ pub data LineStep : Type 0 where
   no_line : LineStep
 
 -- What each case of the code's answer says.
-abbrev pub step_meant : Line → LineStep
-step_meant (At t f) = line_at t f
-step_meant End = no_line
+abbrev pub step_meant : Option Line → LineStep
+step_meant (Some line) = line_at line.trimmed line.feed
+step_meant None = no_line
 
 -- The step at a place, given the lines that are left from there on (Image files, a line runs to).
 unfoldable pub line_step_of : ℕ → List (List ℕ) → LineStep

@@ -1,19 +1,20 @@
 // A text, line by line.
 #![tactic(auto)]
 
-ghost use Rattle.std.specs.Prelude.{◌≡◌, ◌+◌, ◌-◌, ◌≤◌, length, take, drop};
-ghost use Rattle.lines.specs.Lines.{first_line, lines_of, step_meant, line_step_of, trimmed};
+ghost use Rattle.std.specs.Prelude.{◌≡◌, ◌+◌, ◌-◌, ◌≤◌, length, take, drop, not, nat_eq};
+ghost use Rattle.std.specs.List.{prefix_len};
+ghost use Rattle.lines.specs.Lines.{line_feed, first_line, lines_of, step_meant, line_step_of, trimmed};
 ghost use Rattle.lines.specs.Parts.{feed_in, Skips};
 
 pub const LINE_FEED: u8 = 10;
 
 pub const CARRIAGE_RETURN: u8 = 13;
 
-// A line, by where its characters end without and with its carriage return; or that none is left.
-#[derive(Clone, Copy)]
-pub enum Line {
-    At { trimmed: usize, feed: usize },
-    End,
+// A line, by where its characters end without and with its carriage return.
+#[derive(Clone, Copy, Debug, PartialEq, Eq)]
+pub struct Line {
+    pub trimmed: usize,
+    pub feed: usize,
 }
 
 // Characters that are searched at once, and half of them.
@@ -25,13 +26,7 @@ const HALF: usize = 8;
 fn has_feed(text: &[u8]) -> bool
     ensures { result ≡ feed_in text.now }
 {
-    let mut any = false;
-    let mut i = 0;
-    while i < text.len() {
-        any = any | (text[i] == LINE_FEED);
-        i += 1;
-    }
-    any
+    text.iter().fold(false, |any, &c| any | (c == LINE_FEED))
 }
 
 // A place near the end of the line that starts at `at`, and not behind it.
@@ -40,18 +35,24 @@ fn skip(text: &[u8], at: usize) -> usize
     ensures { Skips text.now at result }
 {
     let mut i = at;
-    while text.len() - i >= WINDOW {
-        let to = i + WINDOW;
-        if has_feed(&text[i..to]) {
-            let half = i + HALF;
-            if has_feed(&text[i..half]) {
-                return i;
-            }
-            return half;
+    for window in text[at..].chunks_exact(WINDOW) {
+        if has_feed(window) {
+            return if has_feed(&window[..HALF]) {
+                i
+            } else {
+                i + HALF
+            };
         }
-        i = to;
+        i += WINDOW;
     }
     i
+}
+
+// How many characters stand before the first line feed, or the end.
+fn before_feed(text: &[u8]) -> usize
+    ensures { result ≡ prefix_len (λ c. not (nat_eq c line_feed)) text.now }
+{
+    text.iter().take_while(|&&c| c != LINE_FEED).count()
 }
 
 // Where the line that starts at `at` ends: at its line feed or at the end of the text.
@@ -59,14 +60,8 @@ fn feed(text: &[u8], at: usize) -> usize
     requires { at ≤ length text.now }
     ensures { result ≡ at + length (first_line (lines_of (drop at text.now))) }
 {
-    let mut i = skip(text, at);
-    while i < text.len() {
-        if text[i] == LINE_FEED {
-            return i;
-        }
-        i += 1;
-    }
-    i
+    let from = skip(text, at);
+    from + before_feed(&text[from..])
 }
 
 // Where the line ends once a carriage return before its end is dropped.
@@ -84,16 +79,16 @@ fn trim(text: &[u8], at: usize, feed: usize) -> usize
     feed
 }
 
-// The line that starts at `at`, or the end.
-pub fn next_line(text: &[u8], at: usize) -> Line
+// The line that starts at `at`, or that none is left.
+pub fn next_line(text: &[u8], at: usize) -> Option<Line>
     ensures { step_meant result ≡ line_step_of at (lines_of (drop at text.now)) }
 {
-    if at < text.len() {
-        let end = feed(text, at);
-        return Line::At {
-            trimmed: trim(text, at, end),
-            feed: end,
-        };
+    if at >= text.len() {
+        return None;
     }
-    Line::End
+    let feed = feed(text, at);
+    Some(Line {
+        trimmed: trim(text, at, feed),
+        feed,
+    })
 }

@@ -16,14 +16,12 @@ pub fn put_places(levels: &[u8], answers: &[u8], first: usize, out: &mut [u8]) -
     ensures { Starts (places_text (places_from first levels.now answers.now)) out.old result out.new }
 {
     let mut at = 0;
-    let mut i = 0;
-    while i < levels.len() {
-        if places::disagree(levels[i], answers[i]) {
+    for (i, &level) in levels.iter().enumerate() {
+        if places::disagree(level, answers[i]) {
             at = numbers::put_decimal((first + i) as u64, out, at);
             out[at] = lines::LINE_FEED;
             at += 1;
         }
-        i += 1;
     }
     at
 }

@@ -12,7 +12,7 @@ const FROM_CODE_ONE: u16 = 0x3000;
 
 const FROM_CODE_TWO: u16 = 0x2000;
 
-// Pages from `from` up to but not including `to`.
+// Pages from `from` up to but not including `to`: no Range, since the definitions and the reasons of `withheld` name its two ends.
 #[derive(Clone, Copy)]
 pub struct Extent {
     pub from: u16,
@@ -40,6 +40,7 @@ fn upper_from(kind: Kind, first: u16) -> Extent
 }
 
 // The pages that a block code locks.
+#[tactic(auto, unfolding(crate::specs::Lock::extent_of))]
 pub fn extent_of(kind: Kind, code: u8) -> Extent
     ensures { result ≡ extent_of kind code }
 {
@@ -60,10 +61,10 @@ pub fn extent_of(kind: Kind, code: u8) -> Extent
 }
 
 // Whether a place lies in a locked page.
+#[tactic(auto, unfolding(crate::specs::Lock::locked_of))]
 pub fn locked(kind: Kind, stored: u8, place: Place) -> bool
     ensures { result ≡ locked_of kind stored place }
 {
-    let e = extent_of(kind, block_code(stored));
-    let page = place.0 / PAGE;
-    (e.from <= page) & (page < e.to)
+    let extent = extent_of(kind, block_code(stored));
+    (extent.from..extent.to).contains(&(place.0 / PAGE))
 }

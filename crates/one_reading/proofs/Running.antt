@@ -1,10 +1,11 @@
 -- Laws of passing plain tokens and filling in their samples. Assumes nothing.
 use Prim.Native.Nat.{ℕ, ◌+◌, ◌-◌, ◌/◌, ◌≤◌, ◌<◌}
-use mathlib.Core.Bool.{Bool, true, false}
+use mathlib.Core.Bool.{true}
 use mathlib.Core.List.{List, [], ◌∷◌}
-use mathlib.Core.Path.{◌≡◌, refl, ap, sym, ◌∙◌}
+use mathlib.Core.Path.{◌≡◌, refl, sym, ◌∙◌}
 use native.Mathlib.Omega.{arith}
 use lib.ListN.{length, length-set, set, drop}
+use Rattle.std.specs.Prelude.{Option, Some}
 use Rattle.ground.specs.Numbers.{most_elapsed}
 use Rattle.sections.specs.declared.Place.TheVariants as place
 use Rattle.sections.specs.Sections.{puts}
@@ -22,7 +23,7 @@ use Rattle.glances.specs.Parts.{Sees, SeesTime, Skims}
 use Rattle.glances.proofs.SeenPast.{seen-time}
 use Rattle.judging.proofs.PlainLaws.{Passing, passing-value, passing-time}
 use Rattle.pieces.specs.declared.Mark.{Mark}
-use Rattle.pieces.specs.Marks.{left_from}
+use Rattle.pieces.specs.Marks.{left_from, Low}
 use Rattle.pieces.specs.Parts.{Filling}
 use Rattle.pieces.specs.Parts as parts
 use Rattle.pieces.proofs.Filling.{filling-near}
@@ -39,15 +40,15 @@ passed_at at line lines time given samples left level count =
       count = count;
       track =
           record {
-            mark = record { over = false; at = at; time = time; left = left; level = level };
+            mark = record { at = at; time = time; left = left; level = level };
             line = line;
             heard = record { lines = lines; time = time; given = given; samples = samples };
           };
     }
 
 -- A mark on the way.
-abbrev open_at : ℕ → ℕ → ℕ → ℕ → Mark
-open_at at time left level = record { over = false; at = at; time = time; left = left; level = level }
+abbrev open_at : ℕ → ℕ → ℕ → ℕ → Option Mark
+open_at at time left level = Some (record { at = at; time = time; left = left; level = level })
 
 -- Before a short gap the old levels are not repeated.
 spread-old : (gap a b : ℕ) (ms : List Moment) → gap ≤ most_elapsed → spread gap a ms ≡ spread gap b ms
@@ -64,8 +65,8 @@ left-value dump at to time left level l h e =
     rw e (spread-old left level l (moments_from (body_at dump place.Between true) (words_of (drop to dump)) time l) h)
 
 -- Rows that are filled stay so at a mark that leaves the same.
-filling-same : (dump : List ℕ) (m : Mark) (elapsed₀ levels₀ : List ℕ) (mark next : Mark) (i : ℕ) (elapsed levels : List ℕ)
-    → left_from dump mark ≡ left_from dump next → next.level ≤ 15
+filling-same : (dump : List ℕ) (m : Option Mark) (elapsed₀ levels₀ : List ℕ) (mark next : Option Mark) (i : ℕ) (elapsed levels : List ℕ)
+    → left_from dump mark ≡ left_from dump next → Low next
     → Filling dump m elapsed₀ levels₀ mark i elapsed levels → Filling dump m elapsed₀ levels₀ next i elapsed levels
 filling-same dump m elapsed₀ levels₀ mark next i elapsed levels e l f =
     record {
@@ -80,10 +81,6 @@ filling-same dump m elapsed₀ levels₀ mark next i elapsed levels e l f =
       low = λ _. l;
     }
 
--- A mark that is not over, by its parts.
-mark-open : (m : Mark) → m.over ≡ false → m ≡ open_at m.at m.time m.left m.level
-mark-open m o = ap (λ (b : Bool). record { over = b; at = m.at; time = m.time; left = m.left; level = m.level }) o
-
 -- Plain tokens passed so far.
 pub record Running (dump : List ℕ) (t : Track) (count : ℕ) (elapsed₀ levels₀ : List ℕ) (at line lines time samples left level i : ℕ)
     (elapsed levels : List ℕ) : Type 0 where
@@ -94,14 +91,14 @@ pub record Running (dump : List ℕ) (t : Track) (count : ℕ) (elapsed₀ level
   pub wide : length elapsed ≡ length elapsed₀
   pub long : length levels ≡ length levels₀
   pub even : length elapsed ≡ length levels
-  pub filling : (m : Mark) (e l : List ℕ) → Filling dump m e l t.mark count elapsed₀ levels₀
+  pub filling : (m : Option Mark) (e l : List ℕ) → Filling dump m e l (Some t.mark) count elapsed₀ levels₀
       → Filling dump m e l (open_at at time left level) i elapsed levels
 
-pub running-first : (dump : List ℕ) (t : Track) (count : ℕ) (elapsed levels : List ℕ) → Going dump t → t.mark.over ≡ false
+pub running-first : (dump : List ℕ) (t : Track) (count : ℕ) (elapsed levels : List ℕ) → Going dump t
     → t.mark.left ≤ 100000 → 2 ≤ t.heard.lines → count ≤ length levels → length elapsed ≡ length levels
     → Running dump t count elapsed levels t.mark.at t.line t.heard.lines t.mark.time t.heard.samples t.mark.left
     t.mark.level count elapsed levels
-running-first dump t count elapsed levels g o n w r e =
+running-first dump t count elapsed levels g n w r e =
     record {
       passing = record { further = omega arith; two = w; kept = rw g.same g.kept };
       near = n;
@@ -110,7 +107,7 @@ running-first dump t count elapsed levels g o n w r e =
       wide = refl;
       long = refl;
       even = e;
-      filling = λ m e l f. rw (← mark-open t.mark o) f;
+      filling = λ m e l f. f;
     }
 
 module _ (dump : List ℕ) (t : Track) (count : ℕ) (elapsed₀ levels₀ : List ℕ) (at line lines time samples left level i : ℕ)
@@ -124,7 +121,6 @@ module _ (dump : List ℕ) (t : Track) (count : ℕ) (elapsed₀ levels₀ : Lis
       (record {
         further = r.further;
         going = record { kept = r.passing.kept; same = refl; begun = omega arith };
-        over = refl;
         near = r.near;
         filling = r.filling;
       })
@@ -135,7 +131,7 @@ module _ (dump : List ℕ) (t : Track) (count : ℕ) (elapsed₀ levels₀ : Lis
       → Running dump t count elapsed₀ levels₀ to on lines time samples left l i elapsed levels
   running-value to on c marks v l s h g q w u =
       let e =
-      moment-value dump Between true at line s.from to on s.word (Value c marks) (means-value _ c marks refl ∙ sym s.said) time level c marks refl in
+      moment-value dump Between true at line s.from to on s.word (Some (Value c marks)) (means-value _ c marks refl ∙ sym s.said) time level c marks refl in
       record {
         passing = passing-value dump t.mark.at t.heard.given at line lines time samples r.passing to on c marks s h g;
         near = r.near;
@@ -150,12 +146,12 @@ module _ (dump : List ℕ) (t : Track) (count : ℕ) (elapsed₀ levels₀ : Lis
       }
 
   -- A time that makes one sample more.
-  module _ (past : Past) (seen : Seen) (k : Skims dump at line past) (m : SeesTime dump past.at seen) (above : time < seen.time) where
-    time-moves : parts.Moves dump at level (record { over = false; at = past.at + seen.length; time = seen.time; level = level })
+  module _ (past : Past) (seen : Seen) (k : Skims dump at line past) (m : SeesTime dump past.at (Some seen)) (above : time < seen.time) where
+    time-moves : parts.Moves dump at level (record { level = level; next = Some (record { at = past.at + seen.length; time = seen.time }) })
     time-moves =
-        let s = seen-time dump at line past k seen m (λ (e : seen.length ≡ 0). omega (arith, m.none e)) in
+        let s = seen-time dump at line past k seen m in
         record {
-          moments = λ now. moment-time dump Between true at line s.from (past.at + seen.length) past.line s.word (Time seen.time)
+          moments = λ now. moment-time dump Between true at line s.from (past.at + seen.length) past.line s.word (Some (Time seen.time))
               (means-time _ seen.time refl ∙ sym s.said) now level seen.time refl;
           low = λ h. h;
         }
@@ -179,5 +175,5 @@ module _ (dump : List ℕ) (t : Track) (count : ℕ) (elapsed₀ levels₀ : Lis
           long = omega arith;
           even = omega arith;
           filling = λ n x y f.
-              filling-near dump n x y (open_at at time left level) i elapsed levels (r.filling n x y f) _ _ h refl r.near time-moves refl;
+              filling-near dump n x y (open_at at time left level) i elapsed levels (r.filling n x y f) _ refl _ _ h r.near time-moves refl;
         }

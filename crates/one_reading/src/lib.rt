@@ -5,10 +5,10 @@
 mod moments;
 mod quick;
 
-ghost use Rattle.std.specs.Prelude.{◌≡◌, false, ◌≤◌, length};
+ghost use Rattle.std.specs.Prelude.{◌≡◌, ◌≤◌, length};
 ghost use Rattle.ground.specs.Numbers.{most_elapsed};
 ghost use Rattle.dumps.specs.Defined.{vars_of};
-ghost use Rattle.headings.specs.Parts.{Defines, Tabled, no_fault};
+ghost use Rattle.headings.specs.Parts.{Defines, Opens, Tabled, no_fault};
 ghost use Rattle.changes.specs.declared.Mode.TheVariants.{Between};
 ghost use Rattle.judging.specs.Parts.{nothing_heard};
 ghost use Rattle.judging.specs.Kept.{Kept};
@@ -17,57 +17,29 @@ ghost use Rattle.one_reading.specs.Parts.{StartsFrom, PassesOn};
 
 use changes::{Change, Mode};
 use headings::Heading;
+use headings::faults::Fault;
 use judging::Heard;
 use pieces::Mark;
 use quick::Passed;
-use tokens::Found;
 use wires::marks;
 
-// Where a dump is left without a fault: the mark of the next sample, its line, and what was heard up to there.
-#[derive(Clone, Copy)]
+// Where a dump is left without a fault before its end: the mark of the next sample, its line, and what was heard up to there.
+#[derive(Clone, Copy, Debug, PartialEq, Eq)]
 pub struct Track {
     pub mark: Mark,
     pub line: usize,
     pub heard: Heard,
 }
 
-// Where the samples begin, if nothing is wrong so far.
-#[derive(Clone, Copy)]
-pub struct Started {
-    pub sound: bool,
-    pub track: Track,
-}
-
-// How many samples were filled in, whether nothing is wrong so far, and where the dump is left.
-#[derive(Clone, Copy)]
+// How many samples were filled in, and where the dump is left, if it is not over.
+#[derive(Clone, Copy, Debug, PartialEq, Eq)]
 pub struct Went {
     pub count: usize,
-    pub sound: bool,
-    pub track: Track,
+    pub track: Option<Track>,
 }
 
-// A dump in which something is wrong before its first time line.
-fn wrong() -> Started
-    ensures { result.sound ≡ false }
-{
-    Started {
-        sound: false,
-        track: Track {
-            mark: Mark {
-                over: false,
-                at: 0,
-                time: 0,
-                left: 0,
-                level: 0,
-            },
-            line: 0,
-            heard: judging::UNHEARD,
-        },
-    }
-}
-
-// Reads up to the first time line behind the definitions.
-fn first_time(dump: &[u8], table: &[u8], from: usize, on: usize) -> Started
+// Reads up to the first time line behind the definitions, if nothing is wrong up to there.
+fn first_time(dump: &[u8], table: &[u8], from: usize, on: usize) -> Option<Track>
     requires tabled { Tabled (vars_of dump.now) table.now }
     requires kept { Kept dump.now «from» on no_fault Between nothing_heard }
     ensures { StartsFrom dump.now «from» result }
@@ -76,65 +48,48 @@ fn first_time(dump: &[u8], table: &[u8], from: usize, on: usize) -> Started
     let mut line = on;
     let mut mode = Mode::Between;
     loop {
-        let found = tokens::next(dump, at, line);
-        let Found::Word {
-            from: begins,
-            to,
-            line: next,
-        } = found
-        else {
-            return wrong();
-        };
-        let change = changes::change_of(dump, table, mode, false, &dump[begins..to]);
-        at = to;
-        line = next;
+        let word = tokens::next(dump, at, line)?;
+        let change = changes::change_of(dump, table, mode, false, &dump[word.from..word.to])?;
+        at = word.to;
+        line = word.line;
         match change {
             Change::Time(time) => {
-                let heard = judging::take_time(judging::UNHEARD, time, true);
-                return Started {
-                    sound: true,
-                    track: Track {
-                        mark: Mark {
-                            over: false,
-                            at,
-                            time,
-                            left: 0,
-                            level: 0,
-                        },
-                        line,
-                        heard,
-                    },
+                let mark = Mark {
+                    at,
+                    time,
+                    left: 0,
+                    level: 0,
                 };
+                let heard = judging::take_time(judging::UNHEARD, time, true);
+                return Some(Track { mark, line, heard });
             }
-            Change::Value {
-                character: _,
-                marks: _,
-            } => {
-                return wrong();
-            }
-            Change::Moves(entered) => {
-                mode = entered;
-            }
-            Change::Breaks => {
-                return wrong();
-            }
+            Change::Moves(next) => mode = next,
+            Change::Value { .. } => return None,
         }
     }
 }
 
 // The start of a dump behind its definitions, if nothing is wrong with them.
 #[tactic(auto, using(crate::proofs::Beginning::starting))]
-pub fn start(dump: &[u8], table: &[u8], heading: Heading) -> Started
-    requires { Defines dump.now heading table.now }
+fn behind(dump: &[u8], table: &[u8], heading: Heading) -> Option<Track>
+    requires { Opens dump.now heading table.now }
     ensures { Starts dump.now result }
 {
-    if !heading.over {
-        return wrong();
-    }
-    if heading.fault.number != 0 {
-        return wrong();
+    if heading.fault.is_some() {
+        return None;
     }
     first_time(dump, table, heading.at, heading.line)
+}
+
+// The start of a dump as its definitions were read, if nothing is wrong with them.
+pub fn start(dump: &[u8], table: &[u8], defined: Result<Heading, Fault>) -> Option<Track>
+    requires { Defines dump.now defined table.now }
+    ensures { Starts dump.now result }
+{
+    match defined {
+        Ok(heading) => behind(dump, table, heading),
+        Err(_) => None,
+    }
 }
 
 // Passes plain tokens where they can be passed.
@@ -148,7 +103,6 @@ fn pass(
 ) -> Passed
     requires tabled { Tabled (vars_of dump.now) table.now }
     requires going { Going dump.now track }
-    requires over_value { track.mark.over ≡ false }
     requires left_le_most_elapsed { track.mark.left ≤ most_elapsed }
     requires count_in_bounds { count ≤ length levels.old }
     requires elapsed_len { length elapsed.old ≡ length levels.old }
@@ -162,72 +116,54 @@ fn pass(
     Passed { count, track }
 }
 
-// Fills rows of one length from a track on, as far as there are samples and as long as nothing is wrong.
-pub fn fill(dump: &[u8], table: &[u8], from: Track, elapsed: &mut [u32], levels: &mut [u8]) -> Went
+// Fills rows of one length from a track on, as far as there are samples; nothing comes of it where something is wrong.
+pub fn fill(
+    dump: &[u8],
+    table: &[u8],
+    from: Option<Track>,
+    elapsed: &mut [u32],
+    levels: &mut [u8],
+) -> Option<Went>
     requires tabled { Tabled (vars_of dump.now) table.now }
     requires sound { Sound dump.now «from» }
     requires elapsed_len { length elapsed.old ≡ length levels.old }
     ensures { Reads dump.now «from» elapsed.old levels.old result elapsed.new levels.new }
 {
     let mut track = from;
+    // A `while`: plain tokens move the index by as many samples as they fill.
     let mut i = 0;
     while i < levels.len() {
-        if track.mark.over {
-            return Went {
-                count: i,
-                sound: true,
-                track,
-            };
-        }
-        if track.mark.left > pieces::MOST_ELAPSED {
-            let next = i + 1;
+        let Some(here) = track else {
+            return Some(Went { count: i, track });
+        };
+        if here.mark.left > pieces::MOST_ELAPSED {
             elapsed[i] = pieces::MOST_ELAPSED as u32;
-            levels[i] = track.mark.level;
-            let left = track.mark.left - pieces::MOST_ELAPSED;
-            track.mark.left = left;
-            i = next;
+            levels[i] = here.mark.level;
+            let left = here.mark.left - pieces::MOST_ELAPSED;
+            let mark = Mark { left, ..here.mark };
+            track = Some(Track { mark, ..here });
+            i += 1;
         } else {
-            let passed = pass(dump, table, track, i, elapsed, levels);
+            let passed = pass(dump, table, here, i, elapsed, levels);
             let count = passed.count;
             let open = passed.track;
             if count >= levels.len() {
-                return Went {
+                return Some(Went {
                     count,
-                    sound: true,
-                    track: open,
-                };
+                    track: Some(open),
+                });
             }
-            let closed = moments::hear(
-                dump,
-                table,
-                open.mark.at,
-                open.line,
-                open.heard,
-                open.mark.level,
-            );
-            if !closed.sound {
-                return Went {
-                    count,
-                    sound: false,
-                    track: open,
-                };
-            }
-            let next = count + 1;
+            let closed = moments::hear(dump, table, open)?;
             elapsed[count] = open.mark.left as u32;
             levels[count] = closed.moved.level;
-            let mark = pieces::behind(open.mark.time, closed.moved);
-            let heard = closed.heard;
-            track = Track {
+            let behind = pieces::behind(open.mark.time, closed.moved);
+            track = behind.map(|mark| Track {
                 mark,
                 line: closed.line,
-                heard,
-            };
-            i = next;
+                heard: closed.heard,
+            });
+            i = count + 1;
         }
     }
-    Went {
-        count: i,
-        sound: true,
-        track,
-    }
+    Some(Went { count: i, track })
 }

@@ -1,5 +1,5 @@
 // Plain tokens, of which nearly all of a dump is made: passed without a fault, and their samples filled in.
-ghost use Rattle.std.specs.Prelude.{◌≡◌, false, ◌≤◌, length};
+ghost use Rattle.std.specs.Prelude.{◌≡◌, ◌≤◌, length};
 ghost use Rattle.wires.specs.Wires.{all_wires};
 ghost use Rattle.ground.specs.Numbers.{most_elapsed};
 ghost use Rattle.dumps.specs.Defined.{vars_of};
@@ -13,7 +13,7 @@ use pieces::Mark;
 use wires::{marks, times};
 
 // How many samples are filled in, and where plain tokens end.
-#[derive(Clone, Copy)]
+#[derive(Clone, Copy, Debug, PartialEq, Eq)]
 pub struct Passed {
     pub count: usize,
     pub track: Track,
@@ -21,6 +21,7 @@ pub struct Passed {
 
 // Passes plain tokens while all wires have values: values of 0 and 1, and times above the one before that make one sample, as long as the
 // rows have room for it. Whatever else comes is left.
+#[tactic(auto, using(crate::proofs::Running::passes_on))]
 pub fn pass(
     dump: &[u8],
     table: &[u8],
@@ -31,9 +32,8 @@ pub fn pass(
 ) -> Passed
     requires tabled { Tabled (vars_of dump.now) table.now }
     requires going { Going dump.now «from» }
-    requires from_value { «from».mark.over ≡ false }
     requires from_bound { «from».mark.left ≤ most_elapsed }
-    requires from_value_2 { «from».heard.given ≡ all_wires }
+    requires from_value { «from».heard.given ≡ all_wires }
     requires bound { 2 ≤ «from».heard.lines }
     requires count_in_bounds { count ≤ length levels.old }
     requires elapsed_len { length elapsed.old ≡ length levels.old }
@@ -69,7 +69,9 @@ pub fn pass(
             if i >= levels.len() {
                 break;
             }
-            let seen = glances::time_at(dump, begins);
+            let Some(seen) = glances::time_at(dump, begins) else {
+                break;
+            };
             let now = seen.time;
             if now <= time {
                 break;
@@ -92,7 +94,6 @@ pub fn pass(
         count: i,
         track: Track {
             mark: Mark {
-                over: false,
                 at,
                 time,
                 left,

@@ -1,7 +1,7 @@
 // The page load, the places it fills, and its way into the array.
 #![tactic(auto)]
 
-ghost use Rattle.std.specs.Prelude.{◌≡◌, cond, get_or, set};
+ghost use Rattle.std.specs.Prelude.{◌≡◌};
 ghost use Rattle.page.specs.Page.{place_of, next_in_page, next_in_array, byte_at, empty_load, filled_of, lay_of, store_of, any_marked};
 
 use ground::kinds::Kind;
@@ -11,11 +11,7 @@ use part::state::{BusAddress, Load, PAGE, Place};
 pub fn place_of(kind: Kind, address: BusAddress) -> Place
     ensures { result ≡ place_of kind address }
 {
-    let size = kind.size;
-    if size == 0 {
-        return Place(address.0);
-    }
-    Place(address.0 % size)
+    Place(address.0.checked_rem(kind.size).unwrap_or(address.0))
 }
 
 // The next place of the same page, the last going to the first.
@@ -30,16 +26,10 @@ pub fn next_in_page(place: Place) -> Place
 pub fn next_in_array(kind: Kind, place: Place) -> Place
     ensures { result ≡ next_in_array kind place }
 {
-    let p = place.0;
-    let size = kind.size;
-    if p < size {
-        let next = p + 1;
-        if next < size {
-            return Place(next);
-        }
-        return Place(0);
+    match place.0.checked_add(1) {
+        Some(next) if next < kind.size => Place(next),
+        _ => Place(0),
     }
-    Place(0)
 }
 
 // A load with no byte.
@@ -53,64 +43,37 @@ pub fn empty() -> Load
 }
 
 // The load with a byte put at a place of its page.
-pub fn filled(load: Load, place: Place, byte: u8) -> Load
+pub fn filled(mut load: Load, place: Place, byte: u8) -> Load
     ensures { result ≡ filled_of load place byte }
 {
-    let index = (place.0 % PAGE) as usize;
-    let mut next = load;
-    next.bytes[index] = byte;
-    next.marks[index] = true;
-    next
+    let index = usize::from(place.0 % PAGE);
+    load.bytes[index] = byte;
+    load.marks[index] = true;
+    load
 }
 
 // Whether any byte has come.
 pub fn marked(marks: [bool; 64]) -> bool
     ensures { result ≡ any_marked marks }
 {
-    let mut i = 0;
-    while i < 64 {
-        if marks[i] {
-            return true;
-        }
-        i += 1;
-    }
-    false
+    marks.contains(&true)
 }
 
 // The byte at a place, 0 beyond the array.
 pub fn fetched(array: &[u8], place: Place) -> u8
     ensures { result ≡ byte_at array.now place }
 {
-    let index = place.0 as usize;
-    if index < array.len() {
-        return array[index];
-    }
-    0
-}
-
-fn put(page: &mut [u8], index: usize, mark: bool, byte: u8)
-    ensures { page.new ≡ set page.old index (cond mark byte (get_or page.old index 0)) }
-{
-    if mark {
-        if index < page.len() {
-            page[index] = byte;
-            return;
-        }
-        return;
-    }
+    array.get(usize::from(place.0)).copied().unwrap_or(0)
 }
 
 // Lays the loaded bytes over what starts at the page's first byte.
 fn lay(page: &mut [u8], load: Load)
     ensures { page.new ≡ lay_of load.marks load.bytes page.old }
 {
-    let mut i = 0;
-    while i < 64 {
-        if page.len() <= i {
-            return;
+    for (index, (mark, byte)) in load.marks.iter().zip(&load.bytes).enumerate() {
+        if *mark && index < page.len() {
+            page[index] = *byte;
         }
-        put(page, i, load.marks[i], load.bytes[i]);
-        i += 1;
     }
 }
 
@@ -118,7 +81,7 @@ fn lay(page: &mut [u8], load: Load)
 pub fn store(array: &mut [u8], place: Place, load: Load)
     ensures { array.new ≡ store_of place load array.old }
 {
-    let first = (place.0 / PAGE * PAGE) as usize;
+    let first = usize::from(place.0 / PAGE * PAGE);
     if first < array.len() {
         lay(&mut array[first..], load);
     }

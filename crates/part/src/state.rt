@@ -1,4 +1,5 @@
-// The state of the part, by value. Only `Load` holds arrays, so every other struct stays small.
+// The state of the part, by value. Only `Load` holds arrays, so every other struct stays small. A flag stands beside its value, and the
+// marks beside the bytes: `twin::replay` takes every such state, and hands a refused one back the same.
 
 // Bytes in a page. The two arrays of a page load have as many elements.
 pub const PAGE: u16 = 64;

@@ -1,69 +1,62 @@
 -- Laws of filling rows with the samples from a mark on: one sample more, and where the filling ends. Assumes nothing.
 use Prim.Native.Nat.{ℕ, zero, suc, ◌+◌, ◌-◌, ◌<◌, ◌≤◌, min}
-use mathlib.Core.Bool.{Bool, true, false}
+use mathlib.Core.Bool.{true}
 use mathlib.Core.List.{List, [], ◌∷◌, ◌++◌, map, append_assoc}
 use mathlib.Core.Path.{◌≡◌, refl, ap, sym, ◌∙◌}
 use native.Mathlib.Numerals.{add-one}
 use native.Mathlib.Omega.{arith}
 use lib.ListN.{length, take, drop, set, length-set, length-drop, take-append-drop}
 use lib.Seq.{length-take-le, drop-append-le, drop-drop, drop-nil}
+use Rattle.std.specs.Prelude.{Option, Some, None}
 use Rattle.ground.specs.Numbers.{most_elapsed, most_samples}
 use Rattle.sections.specs.declared.Place.TheVariants.{Between}
 use Rattle.tokens.specs.Tokens.{words_of}
 use Rattle.dumps.specs.Defined.{body_at}
-use Rattle.dumps.specs.Samples.{Sample, Moment, moments_from, gap_to, spread, elapsed_of, levels_of}
+use Rattle.dumps.specs.Samples.{Sample, moments_from, gap_to, spread, elapsed_of, levels_of}
 use Rattle.dumps.proofs.SampleLaws.{spread-far, spread-near, opened}
 use Rattle.pieces.specs.declared.Mark.{Mark}
+use Rattle.pieces.specs.declared.TimeLine.{TimeLine}
 use Rattle.pieces.specs.declared.Moved.{Moved}
 use Rattle.pieces.specs.declared.Filled.{Filled}
-use Rattle.pieces.specs.Marks.{left_from}
-use Rattle.pieces.specs.Parts.{behind_by, Filling}
+use Rattle.pieces.specs.Marks.{left_from, Low}
+use Rattle.pieces.specs.Parts.{behind_by, later_by, Filling, Moves, FillsRoom}
 use Rattle.pieces.specs.Promises.{Fills}
-use Rattle.pieces.specs.Parts.{Moves, FillsRoom, unless_over}
 
 -- A dump that is over has no samples left.
-pub left_over : (dump : List ℕ) (m : Mark) → m.over ≡ true → left_from dump m ≡ []
+pub left_over : (dump : List ℕ) → left_from dump None ≡ []
 unfolding left_from
-left_over dump m h = rw h
-
--- The moments from a place on, outside every section.
-abbrev moments : List ℕ → ℕ → ℕ → ℕ → List Moment
-moments dump at time level = moments_from (body_at dump Between true) (words_of (drop at dump)) time level
+left_over dump = refl
 
 -- One repeat of the old levels, and the mark with less of the gap left.
-left_far : (dump : List ℕ) (m : Mark) → m.over ≡ false → most_elapsed < m.left
-    → left_from dump m
+left_far : (dump : List ℕ) (m : Mark) → most_elapsed < m.left
+    → left_from dump (Some m)
     ≡ record { elapsed = most_elapsed; level = m.level }
-    ∷ left_from dump (record { over = m.over; at = m.at; time = m.time; left = m.left - most_elapsed; level = m.level })
+    ∷ left_from dump (Some (record { at = m.at; time = m.time; left = m.left - most_elapsed; level = m.level }))
 unfolding left_from
-left_far dump m h k =
-    rw h
-    (spread-far m.left m.level (moments dump m.at m.time m.level)
-    (opened 0 (body_at dump Between true) (words_of (drop m.at dump)) m.time m.level).some k)
+left_far dump m k =
+    let words = words_of (drop m.at dump) in
+    spread-far m.left m.level (moments_from (body_at dump Between true) words m.time m.level)
+    (opened 0 (body_at dump Between true) words m.time m.level).some k
 
 -- Behind a moment the time to the next one is left.
-left_behind : (dump : List ℕ) (time : ℕ) (moved : Moved) (over : Bool)
-    → spread (gap_to time (unless_over over (moments dump moved.at moved.time moved.level))) moved.level
-    (unless_over over (moments dump moved.at moved.time moved.level))
-    ≡ left_from dump (behind_by over time moved)
+left_behind : (dump : List ℕ) (time level : ℕ) (next : Option TimeLine)
+    → spread (gap_to time (later_by dump level next)) level (later_by dump level next) ≡ left_from dump (behind_by time level next)
 unfolding left_from
-left_behind dump time moved true = refl
-left_behind dump time moved false =
-    rw (opened time (body_at dump Between true) (words_of (drop moved.at dump)) moved.time moved.level).gap
+left_behind dump time level None = refl
+left_behind dump time level (Some next) = rw (opened time (body_at dump Between true) (words_of (drop next.at dump)) next.time level).gap
 
 -- The moment's own sample, and the mark behind it.
-left_near : (dump : List ℕ) (m : Mark) → m.over ≡ false → (moved : Moved) → m.left ≤ most_elapsed → Moves dump m.at m.level moved
-    → left_from dump m ≡ record { elapsed = m.left; level = moved.level } ∷ left_from dump (behind_by moved.over m.time moved)
+left_near : (dump : List ℕ) (m : Mark) (moved : Moved) → m.left ≤ most_elapsed → Moves dump m.at m.level moved
+    → left_from dump (Some m) ≡ record { elapsed = m.left; level = moved.level } ∷ left_from dump (behind_by m.time moved.level moved.next)
 unfolding left_from
-left_near dump m h moved k e =
-    let later = unless_over moved.over (moments dump moved.at moved.time moved.level) in
-    rw (h, e.moments m.time)
-    (spread-near m.left m.level (record { time = m.time; level = moved.level }) later k
-    ∙ ap (λ (ss : List Sample). record { elapsed = m.left; level = moved.level } ∷ ss) (left_behind dump m.time moved moved.over))
+left_near dump m moved k e =
+    rw (e.moments m.time)
+    (spread-near m.left m.level (record { time = m.time; level = moved.level }) (later_by dump moved.level moved.next) k
+    ∙ ap (λ (ss : List Sample). record { elapsed = m.left; level = moved.level } ∷ ss) (left_behind dump m.time moved.level moved.next))
 
-low-behind : (time : ℕ) (moved : Moved) (over : Bool) → moved.level ≤ 15 → (behind_by over time moved).level ≤ 15
-low-behind time moved true h = omega arith
-low-behind time moved false h = h
+low-behind : (time level : ℕ) (next : Option TimeLine) → level ≤ 15 → Low (behind_by time level next)
+low-behind time level None h = tt
+low-behind time level (Some next) h = h
 
 -- One element more of a row.
 row-turn : (f : Sample → ℕ) (ss : List Sample) (row : List ℕ) (i : ℕ) (s : Sample) (rest : List Sample) → drop i ss ≡ s ∷ rest
@@ -75,7 +68,7 @@ row-turn f [] (y ∷ ys) i s rest e h =
 row-turn f (x ∷ xs) (y ∷ ys) zero s rest e h = let g : x ≡ s = cc in rw g
 row-turn f (x ∷ xs) (y ∷ ys) (suc i) s rest e h = ap (λ (zs : List ℕ). f x ∷ zs) (row-turn f xs ys i s rest e (omega arith))
 
-module _ (dump : List ℕ) (from : Mark) (elapsed₀ levels₀ : List ℕ) where
+module _ (dump : List ℕ) (from : Option Mark) (elapsed₀ levels₀ : List ℕ) where
   pub filling-none : length elapsed₀ ≡ length levels₀ → Filling dump from elapsed₀ levels₀ from 0 elapsed₀ levels₀
   filling-none h =
       record {
@@ -90,9 +83,9 @@ module _ (dump : List ℕ) (from : Mark) (elapsed₀ levels₀ : List ℕ) where
         low = λ k. k;
       }
 
-  module _ (mark : Mark) (i : ℕ) (elapsed levels : List ℕ) (f : Filling dump from elapsed₀ levels₀ mark i elapsed levels) where
-    filling-turn : (s : Sample) (next : Mark) → i < length levels → left_from dump mark ≡ s ∷ left_from dump next
-        → (mark.level ≤ 15 → next.level ≤ 15)
+  module _ (mark : Option Mark) (i : ℕ) (elapsed levels : List ℕ) (f : Filling dump from elapsed₀ levels₀ mark i elapsed levels) where
+    filling-turn : (s : Sample) (next : Option Mark) → i < length levels → left_from dump mark ≡ s ∷ left_from dump next
+        → (Low mark → Low next)
         → Filling dump from elapsed₀ levels₀ next (i + 1) (set elapsed i s.elapsed) (set levels i s.level)
     filling-turn s next h e l =
         let ss = left_from dump from in
@@ -113,18 +106,18 @@ module _ (dump : List ℕ) (from : Mark) (elapsed₀ levels₀ : List ℕ) where
         }
 
     -- A repeat, or a moment's own sample.
-    pub filling-far : i < length levels → mark.over ≡ false → most_elapsed < mark.left
-        → Filling dump from elapsed₀ levels₀
-        (record { over = mark.over; at = mark.at; time = mark.time; left = mark.left - most_elapsed; level = mark.level })
-        (i + 1) (set elapsed i most_elapsed) (set levels i mark.level)
-    filling-far h o k = filling-turn _ _ h (left_far dump mark o k) (λ n. n)
+    pub filling-far : (m : Mark) → mark ≡ Some m → i < length levels → most_elapsed < m.left
+        → Filling dump from elapsed₀ levels₀ (Some (record { at = m.at; time = m.time; left = m.left - most_elapsed; level = m.level }))
+        (i + 1) (set elapsed i most_elapsed) (set levels i m.level)
+    filling-far m e h k =
+        filling-turn (record { elapsed = most_elapsed; level = m.level }) _ h (ap (left_from dump) e ∙ left_far dump m k) (λ n. rw e at n)
 
-    pub filling-near : (moved : Moved) (next : Mark) → i < length levels → mark.over ≡ false → mark.left ≤ most_elapsed
-        → Moves dump mark.at mark.level moved → next ≡ behind_by moved.over mark.time moved
-        → Filling dump from elapsed₀ levels₀ next (i + 1) (set elapsed i mark.left) (set levels i moved.level)
-    filling-near moved next h o k m e =
-        filling-turn (record { elapsed = mark.left; level = moved.level }) next h (rw e (left_near dump mark o moved k m))
-        (λ n. rw e (low-behind mark.time moved moved.over (m.low n)))
+    pub filling-near : (m : Mark) → mark ≡ Some m → (moved : Moved) (next : Option Mark) → i < length levels → m.left ≤ most_elapsed
+        → Moves dump m.at m.level moved → next ≡ behind_by m.time moved.level moved.next
+        → Filling dump from elapsed₀ levels₀ next (i + 1) (set elapsed i m.left) (set levels i moved.level)
+    filling-near m e moved next h k v f =
+        filling-turn (record { elapsed = m.left; level = moved.level }) next h (rw f (ap (left_from dump) e ∙ left_near dump m moved k v))
+        (λ n. let low : Low (Some m) = rw e at n in rw f (low-behind m.time moved.level moved.next (v.low low)))
 
     -- The rows are full, or no sample is left.
     filled : i ≡ min (length (left_from dump from)) (length levels₀)
@@ -138,12 +131,12 @@ module _ (dump : List ℕ) (from : Mark) (elapsed₀ levels₀ : List ℕ) where
         let c = f.long in
         filled (omega arith)
 
-    pub filled-over : mark.over ≡ true → FillsRoom dump from elapsed₀ levels₀ (record { count = i; mark = mark }) elapsed levels
+    pub filled-over : mark ≡ None → FillsRoom dump from elapsed₀ levels₀ (record { count = i; mark = mark }) elapsed levels
     filled-over h =
         let a = f.room in
         let b = f.some in
         let k : length (left_from dump from) - i ≡ 0 =
-        sym (length-drop i (left_from dump from)) ∙ ap length (sym f.left ∙ left_over dump mark h) in
+        sym (length-drop i (left_from dump from)) ∙ ap length (sym f.left ∙ ap (left_from dump) h ∙ left_over dump) in
         filled (omega arith)
 
 -- Parts of rows that were filled, in the whole rows.
@@ -162,7 +155,7 @@ module _ (elapsed levels : List ℕ) (shorter room : ℕ) (a : shorter ≡ min (
     pub room-levels : room ≡ length (take room levels)
     room-levels = sym (length-take-le room levels (omega arith))
 
-    pub fills-back : (dump : List ℕ) (m : Mark) (elapsed' levels' : List ℕ) (r : Filled)
+    pub fills-back : (dump : List ℕ) (m : Option Mark) (elapsed' levels' : List ℕ) (r : Filled)
         → FillsRoom dump m (take room elapsed) (take room levels) r elapsed' levels'
         → Fills dump m elapsed levels r (elapsed' ++ drop room elapsed) (levels' ++ drop room levels)
     fills-back dump m elapsed' levels' r f =

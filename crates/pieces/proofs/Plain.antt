@@ -8,6 +8,7 @@ use native.Mathlib.Omega.{arith}
 use lib.Dec.{eqb}
 use lib.ListN.{length, drop}
 use borrow.Author.Tests.{eqb-true, eqb-false, ne_eqb}
+use Rattle.std.specs.Prelude.{Some, None}
 use Rattle.tokens.specs.Tokens.{words_of}
 use Rattle.sections.specs.declared.Place.TheVariants as place
 use Rattle.sections.specs.Sections.{times, puts}
@@ -38,22 +39,22 @@ level-plain c h = level_by_lem c (eqb c 0x31) refl h
 
 -- One plain token more; lines do not count here.
 module _ (dump : List ℕ) (start level at levels : ℕ) (m : Moving dump start level at 0 Between levels) where
-  pub plain-left : (r : Taken) → r ≡ record { closed = false; at = at; time = 0; level = levels } → Takes dump start level r
-  plain-left r e = rw e (record { inside = m.inside; moments = m.moments; low = m.low })
+  pub stopped : (r : Taken) → r ≡ record { at = at; level = levels; closed = None } → Takes dump start level r
+  stopped r e = rw e (record { inside = m.inside; moments = m.moments; low = m.low })
 
   module _ (to on : ℕ) where
     pub plain_value : (c marks : ℕ) {v l : ℕ} → Sees dump at 0 to on (puts c marks) → v ≡ level_of c → l ≡ laid v marks levels → l ≤ 15
         → Moving dump start level to 0 Between l
     plain_value c marks s v k n =
         let r =
-        moving-value dump start level at 0 Between levels m s.from to on s.word (Value c marks) (means-value _ c marks refl ∙ sym s.said) c marks refl v k n in
+        moving-value dump start level at 0 Between levels m s.from to on s.word (Some (Value c marks)) (means-value _ c marks refl ∙ sym s.said) c marks refl v k n in
         record { inside = r.inside; small = omega arith; moments = r.moments; low = r.low }
 
     pub plain-time : (t : ℕ) → Sees dump at 0 to on (times t)
-        → Takes dump start level (record { closed = true; at = to; time = t; level = levels })
+        → Takes dump start level (record { at = to; level = levels; closed = Some t })
     plain-time t s =
         let r =
-        moves-time dump start level at 0 Between levels m s.from to on s.word (Time t) (means-time _ t refl ∙ sym s.said) t refl in
+        moves-time dump start level at 0 Between levels m s.from to on s.word (Some (Time t)) (means-time _ t refl ∙ sym s.said) t refl in
         record { inside = s.word.inside; moments = r.moments; low = r.low }
 
 -- A place past the end is the end.
@@ -68,15 +69,15 @@ module _ (dump : List ℕ) (start at level : ℕ) (e : at ≡ min start (length 
       ≡ moments_from (body_at dump place.Between true) (words_of (drop at dump)) time level
   same-moments time = rw (e, drop_min start dump)
 
-  module _ (r : Taken) (t : Takes dump at level r) where
-    pub taken-closed : r.closed ≡ true
-        → parts.Moves dump start level (record { over = false; at = r.at; time = r.time; level = r.level })
-    taken-closed c =
-        record { moments = λ time. same-moments time ∙ t.moments time ∙ ap (as_far_as dump time r) c; low = t.low }
+  module _ (r : Taken) (k : Takes dump at level r) where
+    pub taken-closed : (t : ℕ) → r.closed ≡ Some t
+        → parts.Moves dump start level (record { level = r.level; next = Some (record { at = r.at; time = t }) })
+    taken-closed t c =
+        record { moments = λ time. same-moments time ∙ k.moments time ∙ ap (as_far_as dump time r.at r.level) c; low = k.low }
 
-    pub taken-left : (v : Moved) → r.closed ≡ false → parts.Moves dump r.at r.level v → parts.Moves dump start level v
+    pub taken-left : (v : Moved) → r.closed ≡ None → parts.Moves dump r.at r.level v → parts.Moves dump start level v
     taken-left v c m =
         record {
-          moments = λ time. same-moments time ∙ t.moments time ∙ ap (as_far_as dump time r) c ∙ m.moments time;
-          low = λ h. m.low (t.low h);
+          moments = λ time. same-moments time ∙ k.moments time ∙ ap (as_far_as dump time r.at r.level) c ∙ m.moments time;
+          low = λ h. m.low (k.low h);
         }

@@ -1,28 +1,29 @@
 -- Laws of reading on behind the definitions: what is left from a place on gives the same. Assumes nothing.
 use Prim.Native.Nat.{ℕ, ◌-◌, ◌≤◌}
-use mathlib.Core.Bool.{Bool, true, false, true≢false}
+use mathlib.Core.Bool.{true, false, true≢false}
 use mathlib.Core.List.{List, []}
 use mathlib.Core.Path.{◌≡◌, refl, sym, ◌∙◌}
 use native.Mathlib.Omega.{arith}
 use lib.ListN.{length, take, drop}
+use Rattle.std.specs.Prelude.{Option, Result, Some, None, Ok, Err}
 use Rattle.tokens.specs.Tokens.{words_of, tokens_from}
 use Rattle.tokens.specs.Parts.{FindsWord}
 use Rattle.sections.specs.declared.Place.TheVariants as place
 use Rattle.wires.specs.Wires.{laid}
 use Rattle.wires.specs.Values.{level_of}
 use Rattle.dumps.specs.Reading.{says_of}
-use Rattle.dumps.specs.Defined.{body_at}
-use Rattle.dumps.specs.Samples.{moments_from, samples_from, samples_in}
+use Rattle.dumps.specs.Defined.{vars_of, body_at}
+use Rattle.dumps.specs.Samples.{moments_from, samples_from}
 use Rattle.headings.specs.declared.Heading.{Heading}
-use Rattle.headings.specs.Parts.{Defines}
+use Rattle.headings.specs.declared.faults.Fault.{Fault}
+use Rattle.headings.specs.Parts.{Tabled, Opens, Fails, Defines}
 use Rattle.changes.specs.declared.Mode.{Mode}
 use Rattle.changes.specs.declared.Mode.TheVariants.{Between}
 use Rattle.changes.specs.declared.Change.{Change}
-use Rattle.changes.specs.declared.Change.TheVariants.{Time, Value, Moves, Breaks}
+use Rattle.changes.specs.declared.Change.TheVariants.{Time, Value, Moves}
 use Rattle.changes.specs.Parts.{place_of, change_meant}
 use Rattle.pieces.specs.declared.Mark.{Mark}
 use Rattle.pieces.specs.Marks.{left_from}
-use Rattle.pieces.specs.Parts.{over_mark}
 use Rattle.pieces.specs.Parts as parts
 use Rattle.pieces.specs.Promises.{Begins}
 use Rattle.pieces.proofs.Turns.{no_value, moment-time, moment-value, moment-moves, moment-breaks, moment-none, sample-time, sample-moves, sample-breaks, sample-none}
@@ -41,9 +42,9 @@ moving-first dump start level h = record { inside = h; small = omega arith; mome
 
 -- One token more.
 module _ (dump : List ℕ) (start level at on : ℕ) (mode : Mode) (levels : ℕ) (m : Moving dump start level at on mode levels)
-    (from to line : ℕ) (f : FindsWord dump at on from to line) (r : Change)
+    (from to line : ℕ) (f : FindsWord dump at on from to line) (r : Option Change)
     (e : change_meant r ≡ says_of (body_at dump (place_of mode) true) (take (to - from) (drop from dump))) where
-  pub moving-value : (c marks : ℕ) {v l : ℕ} → r ≡ Value c marks → v ≡ level_of c → l ≡ laid v marks levels → l ≤ 15
+  pub moving-value : (c marks : ℕ) {v l : ℕ} → r ≡ Some (Value c marks) → v ≡ level_of c → l ≡ laid v marks levels → l ≤ 15
       → Moving dump start level to line mode l
   moving-value c marks h v k n =
       let s = f.small in
@@ -55,7 +56,7 @@ module _ (dump : List ℕ) (start level at on : ℕ) (mode : Mode) (levels : ℕ
         low = λ _. n;
       }
 
-  pub moving-moves : (next : Mode) → r ≡ Moves next → Moving dump start level to line next levels
+  pub moving-moves : (next : Mode) → r ≡ Some (Moves next) → Moving dump start level to line next levels
   moving-moves next h =
       let s = f.small in
       let b = f.some in
@@ -67,19 +68,18 @@ module _ (dump : List ℕ) (start level at on : ℕ) (mode : Mode) (levels : ℕ
       }
 
   -- A time line closes the moment, and nothing counts behind a malformed token.
-  pub moves-time : (t : ℕ) → r ≡ Time t
-      → parts.Moves dump start level (record { over = false; at = to; time = t; level = levels })
+  pub moves-time : (t : ℕ) → r ≡ Some (Time t)
+      → parts.Moves dump start level (record { level = levels; next = Some (record { at = to; time = t }) })
   moves-time t h =
       record { moments = λ time. m.moments time ∙ moment-time dump mode true at on from to line f r e time levels t h; low = m.low }
 
-  pub moves-breaks : {at' : ℕ} → r ≡ Breaks
-      → parts.Moves dump start level (record { over = true; at = at'; time = 0; level = levels })
+  pub moves-breaks : r ≡ None → parts.Moves dump start level (record { level = levels; next = None })
   moves-breaks h =
       record { moments = λ time. m.moments time ∙ moment-breaks dump mode true at on from to line f r e time levels h; low = m.low }
 
 -- The last moment ends with the dump.
-pub moves-none : (dump : List ℕ) (start level at on : ℕ) (mode : Mode) (levels : ℕ) {at' time' : ℕ} → Moving dump start level at on mode levels
-    → tokens_from on (drop at dump) ≡ [] → parts.Moves dump start level (record { over = true; at = at'; time = time'; level = levels })
+pub moves-none : (dump : List ℕ) (start level at on : ℕ) (mode : Mode) (levels : ℕ) → Moving dump start level at on mode levels
+    → tokens_from on (drop at dump) ≡ [] → parts.Moves dump start level (record { level = levels; next = None })
 moves-none dump start level at on mode levels m e =
     record { moments = λ time. m.moments time ∙ moment-none dump mode true at on e time levels; low = m.low }
 
@@ -91,19 +91,19 @@ pub record Starting (dump : List ℕ) (start at on : ℕ) (mode : Mode) : Type 0
       ≡ samples_from (body_at dump (place_of mode) false) (words_of (drop at dump))
 
 -- Nothing is left where there are no samples.
-pub starts-over : (dump : List ℕ) (start : ℕ) {r : Mark} → r ≡ over_mark
-    → samples_from (body_at dump place.Between false) (words_of (drop start dump)) ≡ [] → parts.StartsAt dump start r
+pub starts-over : (dump : List ℕ) (start : ℕ)
+    → samples_from (body_at dump place.Between false) (words_of (drop start dump)) ≡ [] → parts.StartsAt dump start None
 unfolding left_from
-starts-over dump start h e = record { left = rw (h, e); low = rw h (omega arith) }
+starts-over dump start e = record { left = sym e; low = tt }
 
-pub starts_none : (dump : List ℕ) (start at on : ℕ) (mode : Mode) {r : Mark} → Starting dump start at on mode
-    → tokens_from on (drop at dump) ≡ [] → r ≡ over_mark → parts.StartsAt dump start r
-starts_none dump start at on mode m e h = starts-over dump start h (m.samples ∙ sample-none dump mode false at on e)
+pub starts_none : (dump : List ℕ) (start at on : ℕ) (mode : Mode) → Starting dump start at on mode
+    → tokens_from on (drop at dump) ≡ [] → parts.StartsAt dump start None
+starts_none dump start at on mode m e = starts-over dump start (m.samples ∙ sample-none dump mode false at on e)
 
 module _ (dump : List ℕ) (start at on : ℕ) (mode : Mode) (m : Starting dump start at on mode)
-    (from to line : ℕ) (f : FindsWord dump at on from to line) (r : Change)
+    (from to line : ℕ) (f : FindsWord dump at on from to line) (r : Option Change)
     (e : change_meant r ≡ says_of (body_at dump (place_of mode) false) (take (to - from) (drop from dump))) where
-  pub starting-moves : (next : Mode) → r ≡ Moves next → Starting dump start to line next
+  pub starting-moves : (next : Mode) → r ≡ Some (Moves next) → Starting dump start to line next
   starting-moves next h =
       let s = f.small in
       let b = f.some in
@@ -114,29 +114,27 @@ module _ (dump : List ℕ) (start at on : ℕ) (mode : Mode) (m : Starting dump 
       }
 
   -- The first time line opens a moment with all levels low.
-  pub starts-time : (t : ℕ) → r ≡ Time t
-      → parts.StartsAt dump start (record { over = false; at = to; time = t; left = 0; level = 0 })
+  pub starts-time : (t : ℕ) → r ≡ Some (Time t)
+      → parts.StartsAt dump start (Some (record { at = to; time = t; left = 0; level = 0 }))
   unfolding left_from
   starts-time t h = record { left = sym (m.samples ∙ sample-time dump mode false at on from to line f r e t h); low = omega arith }
 
-  pub starts-breaks : {k : Mark} → r ≡ Breaks → k ≡ over_mark → parts.StartsAt dump start k
-  starts-breaks h k = starts-over dump start k (m.samples ∙ sample-breaks dump mode false at on from to line f r e h)
-
   -- No value stands before it.
-  pub starts-value : {k : Mark} (c marks : ℕ) → r ≡ Value c marks → parts.StartsAt dump start k
+  pub starts-value : (c marks : ℕ) → r ≡ Some (Value c marks) → parts.StartsAt dump start None
   starts-value c marks h = absurd (true≢false (sym (no_value dump mode false at on from to line f r e c marks h)))
 
--- Where the definitions are not over the dump has no samples.
-no-samples : (dump table : List ℕ) (h : Heading) (wrong : Bool) → Defines dump h table → h.over ≡ false → h.wrong ≡ wrong
-    → samples_in dump ≡ []
-no-samples dump table h true d o w = (d.wrong o w).1
-no-samples dump table h false d o w = (d.short o w).1
+  pub starts-breaks : r ≡ None → parts.StartsAt dump start None
+  starts-breaks h = starts-over dump start (m.samples ∙ sample-breaks dump mode false at on from to line f r e h)
 
-pub begins-over : (dump table : List ℕ) (h : Heading) {r : Mark} → Defines dump h table → h.over ≡ false → r ≡ over_mark
-    → Begins dump r
+-- Where the definitions do not end the dump has no samples.
+pub begins-over : (dump table : List ℕ) (f : Fault) → Fails dump f table → Begins dump None
 unfolding left_from
-begins-over dump table h d o e = record { left = rw e (sym (no-samples dump table h h.wrong d o refl)); low = rw e (omega arith) }
+begins-over dump table f d = record { left = sym d.samples; low = tt }
 
-pub begins-first : (dump table : List ℕ) (h : Heading) {r : Mark} → Defines dump h table → h.over ≡ true
-    → parts.StartsAt dump h.at r → Begins dump r
-begins-first dump table h d o s = record { left = s.left ∙ sym (d.over o).1; low = s.low }
+pub begins-first : (dump table : List ℕ) (h : Heading) (r : Option Mark) → Opens dump h table → parts.StartsAt dump h.at r → Begins dump r
+begins-first dump table h r d s = record { left = s.left ∙ sym d.samples; low = s.low }
+
+-- However they are left, the table has the marks.
+pub tabled-by : (dump table : List ℕ) (r : Result Heading Fault) → Defines dump r table → Tabled (vars_of dump) table
+tabled-by dump table (Ok h) d = d.tabled
+tabled-by dump table (Err f) d = d.tabled

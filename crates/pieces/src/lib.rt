@@ -6,12 +6,10 @@ mod quick;
 ghost use Rattle.std.specs.Prelude.{◌≡◌, ◌≤◌, length};
 ghost use Rattle.dumps.specs.Defined.{vars_of};
 ghost use Rattle.headings.specs.Parts.{Tabled};
-ghost use Rattle.pieces.specs.Parts.{over_mark, behind_by, FillsRoom, Moves, StartsAt};
+ghost use Rattle.pieces.specs.Parts.{behind_by, FillsRoom, Moves, StartsAt};
 ghost use Rattle.pieces.specs.Promises.{Begins, Fills};
 
 use changes::{Change, Mode};
-use ground::cases;
-use tokens::Found;
 use wires::{marks, values};
 
 // The most samples of a piece.
@@ -20,48 +18,40 @@ pub const MOST: usize = limits::MOST_SAMPLES;
 // The most that a sample may say has passed.
 pub const MOST_ELAPSED: u64 = limits::MOST_ELAPSED as u64;
 
-// Where a dump is left: behind the time line of the next moment, whose time it has, with what is left of the time up to it and the
-// levels before it; or over.
-#[derive(Clone, Copy)]
+// Where a dump is left that is not over: behind the time line of the next moment, whose time it has, with what is left of the time up to it
+// and the levels before it.
+#[derive(Clone, Copy, Debug, PartialEq, Eq)]
 pub struct Mark {
-    pub over: bool,
     pub at: usize,
     pub time: u64,
     pub left: u64,
     pub level: u8,
 }
 
-// How many samples were filled in, and where the dump is left.
-#[derive(Clone, Copy)]
+// How many samples were filled in, and where the dump is left, if it is not over.
+#[derive(Clone, Copy, Debug, PartialEq, Eq)]
 pub struct Filled {
     pub count: usize,
-    pub mark: Mark,
+    pub mark: Option<Mark>,
+}
+
+// A time line, by where it ends.
+#[derive(Clone, Copy, Debug, PartialEq, Eq)]
+pub struct TimeLine {
+    pub at: usize,
+    pub time: u64,
 }
 
 // A moment's levels, and the time line behind it, if there is one.
-#[derive(Clone, Copy)]
+#[derive(Clone, Copy, Debug, PartialEq, Eq)]
 pub struct Moved {
-    pub over: bool,
-    pub at: usize,
-    pub time: u64,
     pub level: u8,
+    pub next: Option<TimeLine>,
 }
 
-// A dump that is over.
-fn over() -> Mark
-    ensures { result ≡ over_mark }
-{
-    Mark {
-        over: true,
-        at: 0,
-        time: 0,
-        left: 0,
-        level: 0,
-    }
-}
-
-// The first time line behind the definitions.
-fn first_time(dump: &[u8], table: &[u8], from: usize, line: usize) -> Mark
+// The first time line behind the definitions, if there is one. One walk with `one_reading`, here and in `take_rest`, would be no plainer:
+// that one keeps what was heard besides.
+fn first_time(dump: &[u8], table: &[u8], from: usize, line: usize) -> Option<Mark>
     requires tabled { Tabled (vars_of dump.now) table.now }
     requires from_in_bounds { «from» ≤ length dump.now }
     requires line_le_from { line ≤ «from» }
@@ -71,54 +61,34 @@ fn first_time(dump: &[u8], table: &[u8], from: usize, line: usize) -> Mark
     let mut on = line;
     let mut mode = Mode::Between;
     loop {
-        let found = tokens::next(dump, at, on);
-        let Found::Word {
-            from: begins,
-            to,
-            line: next,
-        } = found
-        else {
-            return over();
-        };
-        let change = changes::change_of(dump, table, mode, false, &dump[begins..to]);
-        at = to;
-        on = next;
+        let word = tokens::next(dump, at, on)?;
+        let change = changes::change_of(dump, table, mode, false, &dump[word.from..word.to])?;
+        at = word.to;
+        on = word.line;
         match change {
             Change::Time(time) => {
-                return Mark {
-                    over: false,
+                return Some(Mark {
                     at,
                     time,
                     left: 0,
                     level: 0,
-                };
+                });
             }
-            Change::Value {
-                character: _,
-                marks: _,
-            } => {
-                return over();
-            }
-            Change::Moves(entered) => {
-                mode = entered;
-            }
-            Change::Breaks => {
-                return over();
-            }
+            Change::Moves(next) => mode = next,
+            Change::Value { .. } => return None,
         }
     }
 }
 
-// Where the samples of a dump begin.
-pub fn begin(dump: &[u8]) -> Mark
+// Where the samples of a dump begin, if it has any.
+pub fn begin(dump: &[u8]) -> Option<Mark>
     ensures { Begins dump.now result }
 {
     let mut table = [0u8; headings::CODES];
-    let heading = headings::define(dump, &mut table);
-    if heading.over {
-        return first_time(dump, &table, heading.at, heading.line);
+    match headings::define(dump, &mut table) {
+        Ok(heading) => first_time(dump, &table, heading.at, heading.line),
+        Err(_) => None,
     }
-    over()
 }
 
 // Reads the values of a moment up to the next time line.
@@ -126,98 +96,69 @@ fn take_values(dump: &[u8], table: &[u8], from: usize, level: u8) -> Moved
     requires { Tabled (vars_of dump.now) table.now }
     ensures { Moves dump.now «from» level result }
 {
-    let taken = quick::take_plain(dump, table, cases::lesser(from, dump.len()), level);
-    if taken.closed {
-        return Moved {
-            over: false,
-            at: taken.at,
-            time: taken.time,
+    let taken = quick::take_plain(dump, table, from.min(dump.len()), level);
+    match taken.closed {
+        Some(time) => Moved {
             level: taken.level,
-        };
+            next: Some(TimeLine { at: taken.at, time }),
+        },
+        None => take_rest(dump, table, taken.at, taken.level),
     }
-    take_rest(dump, table, taken.at, taken.level)
 }
 
 // The same, token after token.
-fn take_rest(dump: &[u8], table: &[u8], from: usize, level: u8) -> Moved
+fn take_rest(dump: &[u8], table: &[u8], from: usize, before: u8) -> Moved
     requires tabled { Tabled (vars_of dump.now) table.now }
     requires from_in_bounds { «from» ≤ length dump.now }
-    ensures { Moves dump.now «from» level result }
+    ensures { Moves dump.now «from» before result }
 {
     let mut at = from;
     let mut on = 0;
     let mut mode = Mode::Between;
-    let mut levels = level;
+    let mut level = before;
     loop {
-        let found = tokens::next(dump, at, on);
-        let Found::Word {
-            from: begins,
-            to,
-            line: next,
-        } = found
-        else {
-            return Moved {
-                over: true,
-                at,
-                time: 0,
-                level: levels,
-            };
+        let Some(word) = tokens::next(dump, at, on) else {
+            return Moved { level, next: None };
         };
-        let change = changes::change_of(dump, table, mode, true, &dump[begins..to]);
-        at = to;
-        on = next;
+        let Some(change) = changes::change_of(dump, table, mode, true, &dump[word.from..word.to])
+        else {
+            return Moved { level, next: None };
+        };
+        at = word.to;
+        on = word.line;
         match change {
             Change::Time(time) => {
                 return Moved {
-                    over: false,
-                    at,
-                    time,
-                    level: levels,
+                    level,
+                    next: Some(TimeLine { at, time }),
                 };
             }
             Change::Value { character, marks } => {
-                levels = marks::lay(values::level_of(character), marks, levels);
+                level = marks::lay(values::level_of(character), marks, level);
             }
-            Change::Moves(entered) => {
-                mode = entered;
-            }
-            Change::Breaks => {
-                return Moved {
-                    over: true,
-                    at,
-                    time: 0,
-                    level: levels,
-                };
-            }
+            Change::Moves(next) => mode = next,
         }
     }
 }
 
 // The mark behind a moment.
-pub fn behind(time: u64, moved: Moved) -> Mark
-    ensures { result ≡ behind_by moved.over time moved }
+pub fn behind(time: u64, moved: Moved) -> Option<Mark>
+    ensures { result ≡ behind_by time moved.level moved.next }
 {
-    if moved.over {
-        return over();
-    }
-    let mut left = 0;
-    if time < moved.time {
-        left = moved.time - time;
-    }
-    Mark {
-        over: false,
-        at: moved.at,
-        time: moved.time,
-        left,
+    let next = moved.next?;
+    Some(Mark {
+        at: next.at,
+        time: next.time,
+        left: next.time.saturating_sub(time),
         level: moved.level,
-    }
+    })
 }
 
 // Fills rows of one length, as far as there are samples.
 fn fill_room(
     dump: &[u8],
     table: &[u8],
-    from: Mark,
+    from: Option<Mark>,
     elapsed: &mut [u32],
     levels: &mut [u8],
 ) -> Filled
@@ -226,34 +167,37 @@ fn fill_room(
     ensures { FillsRoom dump.now «from» elapsed.old levels.old result elapsed.new levels.new }
 {
     let mut mark = from;
-    let mut i = 0;
-    while i < levels.len() {
-        if mark.over {
+    for (i, level) in levels.iter_mut().enumerate() {
+        let Some(here) = mark else {
             return Filled { count: i, mark };
-        }
-        let next = i + 1;
-        if mark.left > MOST_ELAPSED {
+        };
+        if here.left > MOST_ELAPSED {
             elapsed[i] = MOST_ELAPSED as u32;
-            levels[i] = mark.level;
-            mark.left = mark.left - MOST_ELAPSED;
+            *level = here.level;
+            mark = Some(Mark {
+                left: here.left - MOST_ELAPSED,
+                ..here
+            });
         } else {
-            let moved = take_values(dump, table, mark.at, mark.level);
-            elapsed[i] = mark.left as u32;
-            levels[i] = moved.level;
-            mark = behind(mark.time, moved);
+            let moved = take_values(dump, table, here.at, here.level);
+            elapsed[i] = here.left as u32;
+            *level = moved.level;
+            mark = behind(here.time, moved);
         }
-        i = next;
     }
-    Filled { count: i, mark }
+    Filled {
+        count: levels.len(),
+        mark,
+    }
 }
 
 // Fills the rows with the samples from a mark on: as many as are left, as the shorter row holds, and as a replay takes.
-pub fn fill(dump: &[u8], mark: Mark, elapsed: &mut [u32], levels: &mut [u8]) -> Filled
+pub fn fill(dump: &[u8], mark: Option<Mark>, elapsed: &mut [u32], levels: &mut [u8]) -> Filled
     ensures { Fills dump.now mark elapsed.old levels.old result elapsed.new levels.new }
 {
     let mut table = [0u8; headings::CODES];
-    headings::define(dump, &mut table);
-    let room = cases::lesser(cases::lesser(elapsed.len(), levels.len()), MOST);
+    let _ = headings::define(dump, &mut table);
+    let room = elapsed.len().min(levels.len()).min(MOST);
     fill_room(
         dump,
         &table,

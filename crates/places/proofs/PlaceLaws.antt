@@ -24,12 +24,12 @@ even n = go (odd n) refl
     go false e = let h = eqb-false (n % 2) 1 e in eq-eqb (n % 2) 0 (omega arith)
 
 -- Both lines high: the twin's answer decides.
-pub high-tells : (level answer : ℕ) → level % 4 ≡ 3 → eqb (answer % 2) 0 ≡ disagrees level answer
-high-tells level answer h = rw (eq-eqb (level % 2) 1 (omega arith), eq-eqb (level / 2 % 2) 1 (omega arith), even answer)
+pub high_tells : (level answer : ℕ) → level % 4 ≡ 3 → eqb (answer % 2) 0 ≡ disagrees level answer
+high_tells level answer h = rw (eq-eqb (level % 2) 1 (omega arith), eq-eqb (level / 2 % 2) 1 (omega arith), even answer)
 
 -- Else there is nothing to report.
-pub low-tells : (level answer : ℕ) → (level % 4 ≡ 3 → ⊥) → false ≡ disagrees level answer
-low-tells level answer h = go (odd level) (odd (level / 2)) refl refl
+pub low_tells : (level answer : ℕ) → (level % 4 ≡ 3 → ⊥) → false ≡ disagrees level answer
+low_tells level answer h = go (odd level) (odd (level / 2)) refl refl
   where
     go : (a b : Bool) → odd level ≡ a → odd (level / 2) ≡ b → false ≡ a && (b && not (odd answer))
     go false b e f = refl

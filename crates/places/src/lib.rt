@@ -5,16 +5,12 @@ ghost use Rattle.std.specs.Prelude.{◌≡◌, ◌≤◌, ◌+◌, length};
 ghost use Rattle.places.specs.Places.{disagrees};
 ghost use Rattle.places.specs.Parts.{Gathers, LaysOut, BringsOut};
 
-use ground::cases;
-
 // SCL high, SDA high in the dump, and the twin pulls it low.
+#[tactic(auto, using(crate::proofs::PlaceLaws::high_tells, crate::proofs::PlaceLaws::low_tells))]
 pub fn disagree(level: u8, answer: u8) -> bool
     ensures { result ≡ disagrees level answer }
 {
-    if level % 4 == 3 {
-        return answer % 2 == 0;
-    }
-    false
+    level % 4 == 3 && answer % 2 == 0
 }
 
 // Adds the places of a piece to those found before, as far as the row goes, and answers how many there are in all.
@@ -31,15 +27,13 @@ pub fn gather(
     ensures { Gathers levels.now answers.now first places.old before result places.new }
 {
     let mut found = before;
-    let mut i = 0;
-    while i < levels.len() {
-        if disagree(levels[i], answers[i]) {
+    for (i, &level) in levels.iter().enumerate() {
+        if disagree(level, answers[i]) {
             if found < places.len() {
                 places[found] = (first + i) as u64;
             }
             found += 1;
         }
-        i += 1;
     }
     found
 }
@@ -48,15 +42,11 @@ pub fn gather(
 fn lay_out(room: &[u64], found: usize, places: &mut [u64]) -> bool
     ensures { LaysOut room.now found places.old places.new result }
 {
-    let wanted = cases::lesser(found, places.len());
+    let wanted = found.min(places.len());
     if wanted > room.len() {
         return false;
     }
-    let mut k = 0;
-    while k < wanted {
-        places[k] = room[k];
-        k += 1;
-    }
+    places[..wanted].copy_from_slice(&room[..wanted]);
     true
 }
 
@@ -72,9 +62,9 @@ pub fn bring_out(
     requires { length copy.now ≡ length array.old }
     ensures { BringsOut room.now found copy.now array.old places.old result array.new places.new }
 {
-    if !lay_out(room, found, places) {
-        return false;
+    let done = lay_out(room, found, places);
+    if done {
+        array.copy_from_slice(copy);
     }
-    array.copy_from_slice(copy);
-    true
+    done
 }

@@ -10,7 +10,7 @@ use clocks::turns::{Clocks, Turn};
 use clocks::{Stand, rooms, turns};
 use ground::kinds;
 use ground::kinds::Kind;
-use part::state::{Device, Load, PAGE, State, Talk};
+use part::state::{Device, Load, PAGE, State, Talk, Wire};
 
 // Where the loops stopped, and the sample before which they did. The talk's bits stand in `now`, its phase
 // in the device.
@@ -23,33 +23,17 @@ pub struct Gone {
     pub at: usize,
 }
 
-fn went(times: Times, device: Device, now: Clocks, load: Load, at: usize) -> Gone
-    ensures { result ≡ record { times = times; device = device; now = now; load = load; at = at } }
-{
-    Gone {
-        times,
-        device,
-        now,
-        load,
-        at,
-    }
-}
-
 // The device with the talk that the clocks have come to.
 fn spoken(d: Device, now: Clocks) -> Device
     ensures { result ≡ spoken_of d now }
 {
-    let talk = d.talk;
-    let phase = talk.phase;
-    let t = Talk {
-        phase,
+    let talk = Talk {
         high: now.high,
         out: now.out,
         own: now.own,
+        ..d.talk
     };
-    let mut next = d;
-    next.talk = t;
-    next
+    Device { talk, ..d }
 }
 
 // The outer loop: what a byte needs twice and a transfer a few times; the inner one takes the clocks. Stops
@@ -69,21 +53,21 @@ fn go_on(
     requires base_bound { base ≤ 6 }
     ensures { Goes_on kind select base elapsed.now levels.now array.now first row.old result row.new }
 {
-    let mut times = first.times;
-    let mut device = first.device;
-    let mut now = first.now;
-    let mut load = first.load;
+    let Gone {
+        mut times,
+        mut device,
+        mut now,
+        mut load,
+        at: mut i,
+    } = first;
     let mut empty = false;
-    let mut i = first.at;
+    // A `while`: the clocks' loop moves the index by as many samples as it takes.
     while i < levels.len() {
         let spent = elapsed[i];
         let level = levels[i];
-        let turn = turns::turn_of(now, spent, level);
-        match turn {
+        match turns::turn_of(now, spent, level) {
             Turn::Plain => {
-                let talk = device.talk;
-                let phase = talk.phase;
-                let sends = bits::sends(phase);
+                let sends = bits::sends(device.talk.phase);
                 let ran = turns::pass(now, sends, base, elapsed, levels, row, i);
                 now = ran.now;
                 i = ran.at;
@@ -92,10 +76,9 @@ fn go_on(
                 let d = spoken(device, now);
                 let v = wire::push(now.shift, now.bit);
                 if device::fills(kind, d) {
-                    let place = d.counter;
-                    let index = (place.0 % PAGE) as usize;
-                    load.bytes[index] = v;
-                    load.marks[index] = true;
+                    let place = (d.counter.0 % PAGE) as usize;
+                    load.bytes[place] = v;
+                    load.marks[place] = true;
                     empty = false;
                 }
                 device = device::byte(kind, select, d, v);
@@ -112,27 +95,29 @@ fn go_on(
                     load = page::empty();
                     empty = true;
                 }
-                let control = device.control;
-                times = rooms::started(times, now.room - spent, control.stored);
+                times = rooms::started(times, now.room - spent, device.control.stored);
                 device = ends::start(0 < times.write, device);
                 now = turns::cut(false, times.all);
                 i = rooms::tell(row, i, true, base);
             }
             Turn::Stop => {
-                let control = device.control;
-                if control.pending | !empty {
+                if device.control.pending || !empty {
                     break;
                 }
                 device = ends::end(device);
                 now = turns::cut(true, now.room - spent);
                 i = rooms::tell(row, i, true, base);
             }
-            Turn::Other => {
-                break;
-            }
+            Turn::Other => break,
         }
     }
-    went(times, device, now, load, i)
+    Gone {
+        times,
+        device,
+        now,
+        load,
+        at: i,
+    }
 }
 
 pub fn pass(
@@ -149,27 +134,35 @@ pub fn pass(
     ensures { Goes elapsed.now levels.now from (part_of s array.now) row.old result.at (part_of result.state array.now) row.new }
 {
     let before = s.timers;
-    if before.reset | before.low {
+    if before.reset || before.low {
         return Stand { state: s, at: from };
     }
-    let chip = s.chip;
-    let kind = kinds::kind_of(chip.part);
+    let kind = kinds::kind_of(s.chip.part);
     let base = rooms::base_of(kind.high, false, before.write);
     let times = rooms::times_of(before.write, before.watchdog);
-    let device = s.device;
-    let now = turns::clocks_of(s.wire, device.talk, times.all);
-    let load = s.load;
     let first = Gone {
         times,
-        device,
-        now,
-        load,
+        device: s.device,
+        now: turns::clocks_of(s.wire, s.device.talk, times.all),
+        load: s.load,
         at: from,
     };
-    let last = go_on(kind, chip.select, base, first, elapsed, levels, array, row);
-    let end = last.now;
-    let timers = rooms::timers_at(before.hold, last.times, end.room);
-    let wire = turns::wire_of(end);
-    let spoke = spoken(last.device, end);
-    clocks::moved(s, timers, wire, spoke, last.load, last.at)
+    let last = go_on(
+        kind,
+        s.chip.select,
+        base,
+        first,
+        elapsed,
+        levels,
+        array,
+        row,
+    );
+    let state = State {
+        timers: rooms::timers_at(before.hold, last.times, last.now.room),
+        wire: Wire::from(last.now),
+        device: spoken(last.device, last.now),
+        load: last.load,
+        ..s
+    };
+    Stand { state, at: last.at }
 }

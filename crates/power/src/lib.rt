@@ -6,18 +6,17 @@ ghost use Rattle.power.specs.Power.{powered_up};
 ghost use Rattle.power.specs.Promises.{PowersUp, ReadsRegister};
 
 use ground::{Reply, kinds};
-use part::state::{
-    Chip, Control, Device, Lines, Phase, Place, State, Talk, Timers, Watchdog, Wire,
-};
+use part::state::{Chip, Control, Device, Lines, Phase, Place, State, Timers, Watchdog, Wire};
 use refusals::verdicts;
 
-// A reply with the state beside it.
+// A reply with the state beside it, and not in it: a refused power-up has a state too.
 #[derive(Clone, Copy)]
 pub struct Replayed {
     pub reply: Reply,
     pub state: State,
 }
 
+#[tactic(auto, unfolding(crate::specs::Power::powered_up))]
 fn powered_up(part: u16, select: u8, stored: u8) -> State
     ensures { result ≡ powered_up part select stored }
 {
@@ -41,12 +40,7 @@ fn powered_up(part: u16, select: u8, stored: u8) -> State
             frame: wire::clean(),
         },
         device: Device {
-            talk: Talk {
-                phase: Phase::Idle,
-                high: 0,
-                out: 0,
-                own: true,
-            },
+            talk: address::rest(Phase::Idle),
             counter: Place(0),
             control: Control {
                 stored,
@@ -66,25 +60,16 @@ pub fn power_up(part: u16, select: u8, stored: u8) -> Replayed
     ensures { PowersUp part select stored result }
 {
     let reply = verdicts::power(part, select, stored);
-    match reply {
-        Reply::Accepted(_) => Replayed {
-            reply,
-            state: powered_up(part, select, stored),
-        },
-        Reply::Refused {
-            number: _,
-            place: _,
-        } => Replayed {
-            reply,
-            state: powered_up(kinds::X4323, 0, 0),
-        },
-    }
+    let state = match reply {
+        Ok(_) => powered_up(part, select, stored),
+        Err(_) => powered_up(kinds::X4323, 0, 0),
+    };
+    Replayed { reply, state }
 }
 
 // The control register as it reads, latches included.
 pub fn register(state: State) -> u8
     ensures { ReadsRegister state result }
 {
-    let device = state.device;
-    control::reads(device.control)
+    control::reads(state.device.control)
 }

@@ -6,6 +6,7 @@ use mathlib.Core.Bool.{Bool, true, false, true≢false, ◌&&◌}
 use mathlib.Core.List.{List}
 use mathlib.Core.Path.{◌≡◌, refl, ap, sym, ◌∙◌}
 use native.Mathlib.Omega.{arith}
+use Rattle.std.proofs.lemmas.Bool.{and_right}
 use lib.Dec.{eqb, ltb}
 use lib.ListN.{get_or, set, get_or-replicate, get_or-eq_default}
 use lib.Seq.{get_or-set_other}
@@ -39,7 +40,7 @@ use Rattle.ranges.proofs.Signs.{Saw, saw}
 use Rattle.ranges.proofs.InRange.{range-within}
 use Rattle.reachable.specs.Reachable.{Reachable, speaks, sends_now, Holds}
 use Rattle.reachable.proofs.Kept.Acknowledges.{stop-bits}
-use Rattle.reachable.proofs.Kept.Steps.{Sits, low-line}
+use Rattle.reachable.proofs.Kept.Steps.{Sits}
 use Rattle.reachable.proofs.Reachable.{Stands, reachable-stands, sends-now, now-sends}
 
 -- The two signs that begin and end a talk.
@@ -74,7 +75,7 @@ held-inside : (e level : ℕ) (s : State) → Sits s → s.device.talk.own ≡ f
 unfolding sign_in opens_of sign_of
 held-inside e level s g o =
     low-inside s.wire.lines.scl (scl_of level) s.wire.lines.sda (line_of level s) s.wire.frame
-    (low-line (sda_of level) s.device.talk.own o) (g.line o)
+    (and_right (sda_of level) s.device.talk.own o) (g.line o)
 
 -- Marks and counter before and after: a mark comes only at the counter's place, and where one is set the page stays.
 record Stays (c : Place) (l : Load) (c' : Place) (l' : Load) : Type 0 where

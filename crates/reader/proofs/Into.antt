@@ -4,9 +4,9 @@ use mathlib.Core.List.{List}
 use mathlib.Core.Path.{◌≡◌, refl, sym, ◌∙◌}
 use native.Mathlib.Omega.{arith}
 use lib.ListN.{length}
+use Rattle.std.specs.Prelude.{Result, Ok, Err}
 use Rattle.ground.specs.Verdict.{accepted, refused}
-use Rattle.ground.specs.declared.Reply.{Reply}
-use Rattle.ground.specs.declared.Reply.TheVariants.{Accepted, Refused}
+use Rattle.ground.specs.declared.Refusal.{Refusal}
 use Rattle.ground.proofs.Verdicts.{is-accepted, is-refused}
 use Rattle.lines.specs.Lines.{lines_of}
 use Rattle.cells.specs.Cells.{settled_of}
@@ -25,13 +25,13 @@ after-accepted (taken given) xs ys n m e = refl
 after-accepted (bad k p) xs ys n m e = let z : ◌≡◌ {A = ℕ} 0 1 = cc in absurd (omega arith)
 
 -- Lines that are refused leave the array, and those that are accepted settle into it.
-pub into-refused : (form : Form) (text cells cells' array : List ℕ) (r : Reply) (k p : ℕ) → ReadsLines form text cells r cells' → r ≡ Refused k p
+pub into-refused : (form : Form) (text cells cells' array : List ℕ) (r : Result ℕ Refusal) (k : Refusal) → ReadsLines form text cells r cells' → r ≡ Err k
     → ReadsInto form text cells array r array
-into-refused form text cells cells' array r k p h e =
+into-refused form text cells cells' array r k h e =
     let w : Reading = lines_read form (length text) 0 cells (lines_of text) in
-    record { reply = h.reply; kept = after-refused w array (length text) k p (is-refused r _ k p h.reply e) }
+    record { reply = h.reply; kept = after-refused w array (length text) _ _ (is-refused r _ k h.reply e) }
 
-pub into-accepted : (form : Form) (text cells cells' array array' : List ℕ) (r : Reply) (n : ℕ) → ReadsLines form text cells r cells' → r ≡ Accepted n
+pub into-accepted : (form : Form) (text cells cells' array array' : List ℕ) (r : Result ℕ Refusal) (n : ℕ) → ReadsLines form text cells r cells' → r ≡ Ok n
     → array' ≡ settled_of cells' → ReadsInto form text cells array r array'
 into-accepted form text cells cells' array array' r n h e f =
     let w : Reading = lines_read form (length text) 0 cells (lines_of text) in

@@ -6,19 +6,20 @@ use native.Mathlib.Omega.{arith}
 use lib.Dec.{eqb}
 use lib.ListN.{length, take, drop, length-drop}
 use lib.Seq.{drop-drop, take-take}
+use Rattle.std.specs.Prelude.{Option, Some, None, Result, Ok, Err}
 use Rattle.lines.specs.Lines.{line_at, no_line, lines_of, first_line, trimmed, step_meant, line_step_of}
 use Rattle.lines.specs.declared.Line.{Line}
-use Rattle.lines.specs.declared.Line.TheVariants.{At, End}
 use Rattle.cells.specs.Cells.{settled_of}
 use Rattle.lines.proofs.LineLaws.{first-take, lines_cons, lines_none, line-fits, trim-take, trim-length}
-use Rattle.ground.specs.Verdict.{meant}
-use Rattle.ground.specs.declared.Reply.TheVariants.{Accepted, Refused}
+use Rattle.ground.specs.Verdict.{meant, number_of}
+use Rattle.ground.specs.declared.Reason.{Reason}
+use Rattle.ground.specs.declared.Refusal.{Refusal}
 use Rattle.forms.specs.Form.{Form}
 use Rattle.forms.specs.Reading.{Heard, says_meant, taken, bad, given_of, says_of, line_by, lines_read}
 use Rattle.forms.specs.Parts.{HearsLine}
 use Rattle.reader.specs.Parts.{ReadsLines}
 use Rattle.forms.specs.declared.Says.{Says}
-use Rattle.forms.specs.declared.Says.TheVariants.{Gives, Ends, Faulty}
+use Rattle.forms.specs.declared.Says.TheVariants.{Gives, Ends}
 
 -- A line step that answers a line has lines before it, and the line's two ends are those of the first.
 step-at : (ls : List (List ℕ)) (at t f : ℕ) → line_step_of at ls ≡ line_at t f
@@ -51,9 +52,11 @@ pub record Found (text : List ℕ) (at t f : ℕ) : Type 0 where
   pub lines : lines_of (drop at text) ≡ first_line (lines_of (drop at text)) ∷ lines_of (drop (f + 1) text)
   pub place : f ≡ at + length (first_line (lines_of (drop at text)))
 
-pub found : (text : List ℕ) (at t f : ℕ) (r : Line) → step_meant r ≡ line_step_of at (lines_of (drop at text)) → r ≡ At t f
-    → Found text at t f
-found text at t f r e g =
+pub found : (text : List ℕ) (at : ℕ) (line : Line) (r : Option Line) → step_meant r ≡ line_step_of at (lines_of (drop at text)) → r ≡ Some line
+    → Found text at line.trimmed line.feed
+found text at line r e g =
+    let t : ℕ = line.trimmed in
+    let f : ℕ = line.feed in
     let l : List ℕ = first_line (lines_of (drop at text)) in
     let s = step-at (lines_of (drop at text)) at t f (sym e ∙ ap step_meant g) in
     let n : length (drop at text) ≡ length text - at = length-drop at text in
@@ -86,24 +89,24 @@ module _ (form : Form) where
   turn-line total at next cells line l all ls r e f g h = rw (h, f, g, e)
 
   -- Where no line is left there is no end record.
-  pub turn-none : (text cells : List ℕ) (at : ℕ) (r : Line) → step_meant r ≡ line_step_of at (lines_of (drop at text)) → r ≡ End
+  pub turn-none : (text cells : List ℕ) (at : ℕ) (r : Option Line) → step_meant r ≡ line_step_of at (lines_of (drop at text)) → r ≡ None
       → lines_read form (length text) at cells (lines_of (drop at text)) ≡ bad 17 (length text)
   turn-none text cells at r e g = rw (step-none (lines_of (drop at text)) at (sym e ∙ ap step_meant g))
 
   -- The reply to a text, by what its lines give.
-  pub lines-refused : (text cells cells' : List ℕ) (k p : ℕ) → lines_read form (length text) 0 cells (lines_of text) ≡ bad k p
-      → ReadsLines form text cells (Refused k p) cells'
+  pub lines-refused : (text cells cells' : List ℕ) (k : Refusal) → lines_read form (length text) 0 cells (lines_of text) ≡ bad (number_of k.reason) k.place
+      → ReadsLines form text cells (Err k) cells'
   unfolding meant
-  lines-refused text cells cells' k p e = record { reply = rw e; kept = rw e }
+  lines-refused text cells cells' k e = record { reply = rw e; kept = rw e }
 
   pub lines-accepted : (text cells cells' : List ℕ)
       → lines_read form (length text) 0 cells (lines_of text) ≡ taken (settled_of cells')
-      → ReadsLines form text cells (Accepted (length text)) cells'
+      → ReadsLines form text cells (Ok (length text)) cells'
   unfolding meant
   lines-accepted text cells cells' e = record { reply = rw e; kept = rw e }
 
 -- A line that was found in a text and heard.
-module _ (form : Form) (text cells cells' : List ℕ) (at t f : ℕ) (r : Says) (w : Found text at t f)
+module _ (form : Form) (text cells cells' : List ℕ) (at t f : ℕ) (r : Result Says Reason) (w : Found text at t f)
     (h : HearsLine form (eqb at 0) (take (t - at) (drop at text)) cells r cells') where
   turn : lines_read form (length text) at cells (lines_of (drop at text))
       ≡ line_by (says_meant r) at (f + 1) cells (lines_of (drop (f + 1) text))
@@ -112,20 +115,23 @@ module _ (form : Form) (text cells cells' : List ℕ) (at t f : ℕ) (r : Says) 
       turn-line form (length text) at (f + 1) cells _ _ _ _ (says_meant r) w.lines w.line (ap (λ (n : ℕ). n + 1) w.place) h.said
 
   -- If it gives data, the lines after it are left.
-  pub turn-gives : r ≡ Gives
+  pub turn-gives : r ≡ Ok Gives
       → lines_read form (length text) at cells (lines_of (drop at text))
       ≡ lines_read form (length text) (f + 1) cells' (lines_of (drop (f + 1) text))
   turn-gives e = turn ∙ rw (h.kept, e)
 
   -- A faulty line is refused at its place.
-  pub turn-faulty : (k : ℕ) → r ≡ Faulty k → lines_read form (length text) at cells (lines_of (drop at text)) ≡ bad k at
-  turn-faulty k e = turn ∙ rw e
+  pub turn-refused : (start : List ℕ) (reply : Result ℕ Refusal)
+      → lines_read form (length text) 0 start (lines_of text) ≡ lines_read form (length text) at cells (lines_of (drop at text))
+      → (k : Reason) × (r ≡ Err k) × (reply ≡ Err record { reason = k; place = at }) → ReadsLines form text start reply cells'
+  turn-refused start reply s (k, e, f) =
+      rw f (lines-refused form text start cells' (record { reason = k; place = at }) (s ∙ turn ∙ rw e))
 
   -- Nothing may stand after the end record's line.
-  pub turn-after : r ≡ Ends → f + 1 < length text
+  pub turn-after : r ≡ Ok Ends → f + 1 < length text
       → lines_read form (length text) at cells (lines_of (drop at text)) ≡ bad 18 (f + 1)
   turn-after e n = turn ∙ rw (e, lines_cons (drop (f + 1) text) (simp length-drop (omega arith)))
 
-  pub turn-ends : r ≡ Ends → length text ≤ f + 1
+  pub turn-ends : r ≡ Ok Ends → length text ≤ f + 1
       → lines_read form (length text) at cells (lines_of (drop at text)) ≡ taken (settled_of cells')
   turn-ends e n = turn ∙ rw (h.kept, e, lines_none (drop (f + 1) text) (simp length-drop (omega arith)))

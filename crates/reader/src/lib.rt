@@ -2,72 +2,61 @@
 #![tactic(auto)]
 
 ghost use Rattle.std.specs.Prelude.{◌≡◌, ◌≤◌, length, take};
-ghost use Rattle.formats.specs.Formats.{form_of};
 ghost use Rattle.reader.specs.Parts.{ReadsLines, ReadsInto};
 
-use formats::Format;
+use formats::RecordForm;
 use forms::Says;
-use ground::Reply;
-use lines::Line;
+use ground::{Reason, Refusal, Reply};
 
 // Reads the lines into the cells, up to the end record or the first fault. Room for a line's bytes is lent.
-fn read_lines(format: Format, text: &[u8], room: &mut [u8], cells: &mut [u16]) -> Reply
+fn read_lines<F: RecordForm>(text: &[u8], room: &mut [u8], cells: &mut [u16]) -> Reply
     requires text_len_bound { length text.now ≤ 65536 }
     requires in_bounds { 268 ≤ length room.old }
-    ensures { ReadsLines (form_of format) text.now cells.old result cells.new }
+    ensures { ReadsLines F.form_of text.now cells.old result cells.new }
 {
     let mut at = 0;
     loop {
-        let line = lines::next_line(text, at);
-        let Line::At { trimmed, feed } = line else {
-            return Reply::Refused {
-                number: 17,
+        let Some(line) = lines::next_line(text, at) else {
+            return Err(Refusal {
+                reason: Reason::EndMissing,
                 place: text.len(),
-            };
+            });
         };
-        let says = formats::hear(format, at == 0, &text[at..], trimmed - at, room, cells);
-        let next = feed + 1;
+        let says = F::hear(at == 0, &text[at..], line.trimmed - at, room, cells).map_err(
+            |reason| Refusal { reason, place: at },
+        )?;
+        let next = line.feed + 1;
         match says {
-            Says::Gives => {
-                at = next;
+            Says::Gives => at = next,
+            Says::Ends if next < text.len() => {
+                return Err(Refusal {
+                    reason: Reason::BytesAfterEnd,
+                    place: next,
+                });
             }
-            Says::Ends => {
-                if next < text.len() {
-                    return Reply::Refused {
-                        number: 18,
-                        place: next,
-                    };
-                }
-                return Reply::Accepted(text.len());
-            }
-            Says::Faulty(number) => {
-                return Reply::Refused { number, place: at };
-            }
+            Says::Ends => return Ok(text.len()),
         }
     }
 }
 
 // Reads a text into the cells, and only if it is accepted their bytes into the array.
-fn read_into(format: Format, text: &[u8], cells: &mut [u16], array: &mut [u8]) -> Reply
+fn read_into<F: RecordForm>(text: &[u8], cells: &mut [u16], array: &mut [u8]) -> Reply
     requires text_len_bound { length text.now ≤ 65536 }
     requires array_len { length array.old ≡ length cells.old }
-    ensures { ReadsInto (form_of format) text.now cells.old array.old result array.new }
+    ensures { ReadsInto F.form_of text.now cells.old array.old result array.new }
 {
-    let mut room = [0u8; formats::ROOM];
-    let reply = read_lines(format, text, &mut room, cells);
-    let Reply::Accepted(_) = reply else {
-        return reply;
-    };
+    let mut room = [0; formats::ROOM];
+    let count = read_lines::<F>(text, &mut room, cells)?;
     cells::settle(cells, array);
-    reply
+    Ok(count)
 }
 
 // The same over as many of the cells as the array has bytes.
-pub fn read_over(format: Format, text: &[u8], cells: &mut [u16], array: &mut [u8]) -> Reply
+pub fn read_over<F: RecordForm>(text: &[u8], cells: &mut [u16], array: &mut [u8]) -> Reply
     requires text_len_bound { length text.now ≤ 65536 }
     requires array_in_bounds { length array.old ≤ length cells.old }
-    ensures { ReadsInto (form_of format) text.now (take (length array.old) cells.old) array.old result array.new }
+    ensures { ReadsInto F.form_of text.now (take (length array.old) cells.old) array.old result array.new }
 {
     let size = array.len();
-    read_into(format, text, &mut cells[..size], array)
+    read_into::<F>(text, &mut cells[..size], array)
 }

@@ -9,9 +9,9 @@ use borrow.Author.Tests.{eqb-true, eq-eqb}
 use Rattle.ground.specs.Numbers.{most_samples}
 use Rattle.ground.specs.Kind.{kind_of}
 use Rattle.part.specs.declared.state.State.{State}
-use Rattle.ground.specs.Verdict.{Verdict, accepted, refused, meant}
-use Rattle.ground.specs.declared.Reply.{Reply}
-use Rattle.ground.specs.declared.Reply.TheVariants.{Accepted, Refused}
+use Rattle.ground.specs.Verdict.{Verdict, accepted, refused, number_of, meant}
+use Rattle.std.specs.Prelude.{Result, Ok, Err}
+use Rattle.ground.specs.declared.Refusal.{Refusal}
 use Rattle.limits.specs.Samples.{samples_of}
 use Rattle.refusals.specs.Refusals.{rows_by, answers_by, rows_of, capture_of, judged_of, in_range}
 use Rattle.ground.proofs.Verdicts.{is-accepted, is-refused, apart}
@@ -79,10 +79,10 @@ module _ (s : State) (es ls array : List ℕ) where
 
   -- A reply that is refused by 4 to 7 is the whole verdict; after one that is accepted the verdict is that on what follows, and the two
   -- rows are of one length.
-  module _ (r : Reply) (m : ℕ) (h : meant r ≡ rows_of s es ls array (accepted m)) where
-    pub rows-stop : (v : Verdict) (k p : ℕ) → r ≡ Refused k p → meant r ≡ rows_of s es ls array v
-    rows-stop v k p g =
-        let e = is-refused r (rows_of s es ls array (accepted m)) k p h g in
+  module _ (r : Result ℕ Refusal) (m : ℕ) (h : meant r ≡ rows_of s es ls array (accepted m)) where
+    pub rows-stop : (v : Verdict) (k : Refusal) → r ≡ Err k → meant r ≡ rows_of s es ls array v
+    rows-stop v k g =
+        let e = is-refused r (rows_of s es ls array (accepted m)) k h g in
         h ∙ e
         ∙ sym
         (stops
@@ -92,11 +92,11 @@ module _ (s : State) (es ls array : List ℕ) where
         (leb (length ls) most_samples)
         v
         m
-        k
-        p
+        (number_of k.reason)
+        k.place
         e)
 
-    pub rows-go : (v : Verdict) (n : ℕ) → r ≡ Accepted n → rows_of s es ls array v ≡ v
+    pub rows-go : (v : Verdict) (n : ℕ) → r ≡ Ok n → rows_of s es ls array v ≡ v
     rows-go v n g =
         goes
         (in_range s)
@@ -108,7 +108,7 @@ module _ (s : State) (es ls array : List ℕ) where
         n
         (is-accepted r (rows_of s es ls array (accepted m)) n h g)
 
-    pub rows-one : (n : ℕ) → r ≡ Accepted n → length es ≡ length ls
+    pub rows-one : (n : ℕ) → r ≡ Ok n → length es ≡ length ls
     rows-one n g = rows_alike (accepted m) n (is-accepted r (rows_of s es ls array (accepted m)) n h g)
 
   -- The rows of an accepted capture are of one length.

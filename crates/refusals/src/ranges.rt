@@ -18,24 +18,18 @@ pub fn is_storable(stored: u8) -> bool
 fn times_in_range(t: Timers) -> bool
     ensures { result ≡ timers_in_range t }
 {
-    let watchdog = t.watchdog;
     (t.write <= timers::WRITE_TIME)
-        & ((t.hold <= timers::RESET_HOLD) & (watchdog.left <= timers::LONG_WATCH))
+        & ((t.hold <= timers::RESET_HOLD) & (t.watchdog.left <= timers::LONG_WATCH))
 }
 
+#[tactic(auto, unfolding(crate::specs::Refusals::in_range))]
 pub fn in_range(s: State) -> bool
     ensures { result ≡ in_range s }
 {
-    let chip = s.chip;
-    let kind = kinds::kind_of(chip.part);
-    let device = s.device;
-    let counter = device.counter;
-    let control = device.control;
-    let wire = s.wire;
-    let frame = wire.frame;
-    let times = times_in_range(s.timers);
-    let stored = is_storable(control.stored);
-    (counter.0 < kind.size)
-        & ((frame.bits <= MOST_BITS)
-            & (times & ((0 < kind.size) & ((chip.select <= MOST_SELECT) & stored))))
+    let kind = kinds::kind_of(s.chip.part);
+    (s.device.counter.0 < kind.size)
+        & ((s.wire.frame.bits <= MOST_BITS)
+            & (times_in_range(s.timers)
+                & ((0 < kind.size)
+                    & ((s.chip.select <= MOST_SELECT) & is_storable(s.device.control.stored)))))
 }

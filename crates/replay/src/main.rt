@@ -10,24 +10,20 @@ use streams::arguments;
 // A word that is longer than its room is read as an empty one, and so is no number and names no file.
 fn main(rt: HostRuntime) -> io::Result<()> {
     let mut dump_room = arguments::room();
-    let dump = arguments::word_at(&rt, 1, &mut dump_room);
     let mut image_room = arguments::room();
-    let image = arguments::word_at(&rt, 2, &mut image_room);
+    let dump = arguments::given_at(&rt, 1, &mut dump_room);
+    let image = arguments::given_at(&rt, 2, &mut image_room);
     let mut errors = rt.stderr();
-    if !image.given {
+    let (Some(dump), Some(image)) = (dump, image) else {
         return errors.write_all(b"usage: replay DUMP IMAGE [PART [SELECT [STORED]]]\n");
-    }
-    let dump_length = dump.length;
-    let image_length = image.length;
+    };
     let _ = replayed::replay(
         &rt,
         &mut rt.stdout(),
         &mut errors,
-        &dump_room[..dump_length],
-        &image_room[..image_length],
-        given::part_at(&rt, 3),
-        given::byte_at(&rt, 4),
-        given::byte_at(&rt, 5),
+        dump,
+        image,
+        given::powering_at(&rt, 3),
     )?;
     Ok(())
 }

@@ -24,29 +24,20 @@ fn take_case<R: Env + Files, W: Write, E: Write>(
         return Ok(false);
     }
     let mut dump_room = arguments::room();
-    let dump = arguments::word_at(rt, position, &mut dump_room);
     let mut image_room = arguments::room();
-    let image = arguments::word_at(rt, position + 1, &mut image_room);
-    let dump_length = dump.length;
-    let image_length = image.length;
+    let dump = arguments::given_at(rt, position, &mut dump_room).unwrap_or(b"");
+    let image = arguments::given_at(rt, position + 1, &mut image_room).unwrap_or(b"");
     out.write_all(b"== ")?;
-    out.write_all(&dump_room[..dump_length])?;
+    out.write_all(dump)?;
     out.write_all(b"\n")?;
-    replayed::replay(
-        rt,
-        out,
-        errors,
-        &dump_room[..dump_length],
-        &image_room[..image_length],
-        given::part_at(rt, position + 2),
-        given::byte_at(rt, position + 3),
-        given::byte_at(rt, position + 4),
-    )
+    let powering = given::powering_at(rt, position + 2);
+    replayed::replay(rt, out, errors, dump, image, powering)
 }
 
 fn main(rt: HostRuntime) -> io::Result<()> {
     let mut out = rt.stdout();
     let mut errors = rt.stderr();
+    // Counted to a number that no run reaches: nothing says that the words end.
     for case in 0..usize::MAX / 8 {
         if !take_case(&rt, &mut out, &mut errors, 5 * case + 1)? {
             break;

@@ -9,16 +9,17 @@ ghost use Rattle.ground.specs.Kind.{kind_of};
 ghost use Rattle.ground.specs.Numbers.{large_size};
 ghost use Rattle.disagreements.specs.Promises.{Stands};
 
-use ground::{Reply, kinds};
+use given::Powering;
+use ground::{Refusal, kinds};
 use std::fs::Files;
 use std::io;
 use std::io::{Read, Write};
 use streams::files;
 
 // Writes a refusal's line.
-fn put_refusal<W: Write>(out: &mut W, number: u8, place: usize) -> io::Result<()> {
-    let mut line = [0u8; texts::refusals::LONGEST];
-    let length = texts::refusals::put_refusal(number, place, &mut line);
+fn put_refusal<W: Write>(out: &mut W, refusal: Refusal) -> io::Result<()> {
+    let mut line = [0; texts::refusals::LONGEST];
+    let length = texts::refusals::put_refusal(refusal.reason.into(), refusal.place, &mut line);
     out.write_all(&line[..length])
 }
 
@@ -31,10 +32,11 @@ fn put_places<W: Write>(
 ) -> io::Result<()>
     requires { Stands dump.now «from» array.old }
 {
-    let mut elapsed = replaying::rooms::elapsed_room();
-    let mut levels = replaying::rooms::row_room();
-    let mut answers = replaying::rooms::row_room();
-    let mut text = replaying::rooms::text_room();
+    let mut elapsed = [0; replaying::rooms::ROW];
+    let mut levels = [0; replaying::rooms::ROW];
+    let mut answers = [0; replaying::rooms::ROW];
+    let mut text = [0; replaying::rooms::TEXT];
+    // A `loop`: each piece says where the next one begins.
     let mut stand = from;
     loop {
         let told = replaying::tell(
@@ -46,8 +48,7 @@ fn put_places<W: Write>(
             &mut answers,
             &mut text,
         );
-        let count = told.count;
-        if count == 0 {
+        if told.count == 0 {
             return Ok(());
         }
         let length = told.length;
@@ -59,47 +60,47 @@ fn put_places<W: Write>(
 // Writes the report of a dump on a part that holds an image, or the line of its refusal.
 fn put_report<W: Write>(
     out: &mut W,
-    part: u16,
-    select: u8,
-    stored: u8,
+    powering: Powering,
     image: &[u8],
     dump: &[u8],
     array: &mut [u8],
 ) -> io::Result<()>
-    requires { length array.old ≡ (kind_of part).size }
+    requires { length array.old ≡ (kind_of powering.part).size }
 {
-    let opened = replaying::start(part, select, stored, image, dump, array);
-    let reply = opened.reply;
-    match reply {
-        Reply::Refused { number, place } => put_refusal(out, number, place),
-        Reply::Accepted(_) => put_places(out, dump, opened.stand, array),
+    let opened = replaying::start(
+        powering.part,
+        powering.select,
+        powering.stored,
+        image,
+        dump,
+        array,
+    );
+    match opened.reply {
+        Ok(_) => put_places(out, dump, opened.stand, array),
+        Err(refusal) => put_refusal(out, refusal),
     }
 }
 
 // The same within room for the largest array.
 fn put_within<W: Write>(
     out: &mut W,
-    part: u16,
-    select: u8,
-    stored: u8,
+    powering: Powering,
     image: &[u8],
     dump: &[u8],
     array: &mut [u8],
 ) -> io::Result<()>
     requires { length array.old ≡ large_size }
 {
-    let kind = kinds::kind_of(part);
+    let kind = kinds::kind_of(powering.part);
     let size = kind.size as usize;
-    put_report(out, part, select, stored, image, dump, &mut array[..size])
+    put_report(out, powering, image, dump, &mut array[..size])
 }
 
 // Reads the dump's file into a room, and writes its report; false where it cannot be read, or fills the room and so is too long.
 fn put_dump<F: Read, W: Write, E: Write>(
     out: &mut W,
     errors: &mut E,
-    part: u16,
-    select: u8,
-    stored: u8,
+    powering: Powering,
     image: &[u8],
     name: &[u8],
     file: &mut F,
@@ -112,62 +113,22 @@ fn put_dump<F: Read, W: Write, E: Write>(
         files::tell(errors, name, "longer than 4194304 bytes")?;
         return Ok(false);
     }
-    let mut array = replaying::rooms::array_room();
-    put_within(
-        out,
-        part,
-        select,
-        stored,
-        image,
-        &room[..length],
-        &mut array,
-    )?;
+    let mut array = [0; replaying::rooms::ARRAY];
+    put_within(out, powering, image, &room[..length], &mut array)?;
     Ok(true)
 }
 
-// The same with its room, which is by far the largest: it is made here and lent on, so that it is there once.
+// The same with its room, which is by far the largest. Beside what the others do with it, the proof did not close: it is too long a list.
 fn put_in_room<F: Read, W: Write, E: Write>(
     out: &mut W,
     errors: &mut E,
-    part: u16,
-    select: u8,
-    stored: u8,
+    powering: Powering,
     image: &[u8],
     name: &[u8],
     file: &mut F,
 ) -> io::Result<bool> {
-    let mut room = [0u8; replaying::rooms::DUMP];
-    put_dump(
-        out, errors, part, select, stored, image, name, file, &mut room,
-    )
-}
-
-// Reads the image's file, then the dump's, both open, and writes the report.
-fn put_files<F: Read, W: Write, E: Write>(
-    out: &mut W,
-    errors: &mut E,
-    part: u16,
-    select: u8,
-    stored: u8,
-    dump: &[u8],
-    dump_file: &mut F,
-    image: &[u8],
-    image_file: &mut F,
-) -> io::Result<bool> {
-    let mut text = tidying::rooms::text_room();
-    let Some(length) = files::read_full(image_file, errors, image, &mut text)? else {
-        return Ok(false);
-    };
-    put_in_room(
-        out,
-        errors,
-        part,
-        select,
-        stored,
-        &text[..length],
-        dump,
-        dump_file,
-    )
+    let mut room = [0; replaying::rooms::DUMP];
+    put_dump(out, errors, powering, image, name, file, &mut room)
 }
 
 // Replays the dump of one file on a part with the image of another; false where one cannot be opened or read, which is named on `errors`.
@@ -177,9 +138,7 @@ pub fn replay<R: Files, W: Write, E: Write>(
     errors: &mut E,
     dump: &[u8],
     image: &[u8],
-    part: u16,
-    select: u8,
-    stored: u8,
+    powering: Powering,
 ) -> io::Result<bool> {
     let Some(mut dump_file) = files::open(rt, errors, dump)? else {
         return Ok(false);
@@ -187,15 +146,9 @@ pub fn replay<R: Files, W: Write, E: Write>(
     let Some(mut image_file) = files::open(rt, errors, image)? else {
         return Ok(false);
     };
-    put_files(
-        out,
-        errors,
-        part,
-        select,
-        stored,
-        dump,
-        &mut dump_file,
-        image,
-        &mut image_file,
-    )
+    let mut text = [0; tidying::rooms::TEXT];
+    let Some(length) = files::read_full(&mut image_file, errors, image, &mut text)? else {
+        return Ok(false);
+    };
+    put_in_room(out, errors, powering, &text[..length], dump, &mut dump_file)
 }

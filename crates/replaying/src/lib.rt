@@ -9,7 +9,6 @@ ghost use Rattle.disagreements.specs.Promises.{Stands};
 ghost use Rattle.replaying.specs.Promises.{Readies, Tells};
 
 use disagreements::{Opened, Stand};
-use ground::Reply;
 
 // What was written of a piece, and where the dump is left.
 #[derive(Clone, Copy)]
@@ -32,16 +31,20 @@ pub fn start(
     ensures { Readies part select stored image.now dump.now result array.new }
 {
     let opened = disagreements::begin(part, select, stored, dump, array);
-    let stand = opened.stand;
     let powered = twin::power_up(part, select, stored);
-    let reply = powered.reply;
-    let Reply::Accepted(_) = reply else {
-        return Opened { reply, stand };
-    };
+    if powered.reply.is_err() {
+        return Opened {
+            reply: powered.reply,
+            ..opened
+        };
+    }
     let read = image::read_image(part, image, array);
-    let Reply::Accepted(_) = read else {
-        return Opened { reply: read, stand };
-    };
+    if read.is_err() {
+        return Opened {
+            reply: read,
+            ..opened
+        };
+    }
     opened
 }
 
@@ -66,11 +69,10 @@ fn tell_rows(
     let played = disagreements::play(dump, stand, array, elapsed, levels, answers);
     let count = played.count;
     let length = listing::put_places(&levels[..count], &answers[..count], first, out);
-    let stand = played.stand;
     Told {
         count,
         length,
-        stand,
+        stand: played.stand,
     }
 }
 

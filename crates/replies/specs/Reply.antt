@@ -1,11 +1,10 @@
 -- The words of a reply (docs/BENCH.md).
-use Rattle.std.specs.Prelude.{ℕ, ◌≤◌, min, Bool, true, false, List, [], ◌∷◌, ◌≡◌, length, take}
+use Rattle.std.specs.Prelude.{ℕ, min, Bool, true, false, List, [], ◌∷◌, ◌≡◌, length, Option, Some, None}
 use Rattle.ground.specs.Cases.{or_zero}
 use Rattle.part.specs.declared.state.State.{State}
 use Rattle.ground.specs.Verdict.{Verdict, accepted, refused}
 use Rattle.power.specs.Promises.{ReadsRegister}
 use Rattle.form.specs.Words.{bytes_of}
-use Rattle.replies.specs.declared.Tail.{Tail}
 
 -- The first two words: the refusal's number, 0 for acceptance, and the place or the count of samples.
 unfoldable pub opening_of : Verdict → List ℕ
@@ -40,7 +39,11 @@ unfoldable pub ending_of : Bool → State → List ℕ
 ending_of true s = length (further_told s) ∷ further_told s
 ending_of false s = []
 
--- The bytes that end a reply: as many from the front of their room as the tail has.
-pub record EndsReply (long : Bool) (s : State) (t : Tail) : Type 0 where
-  pub fits : t.length ≤ length t.bytes
-  pub said : take t.length t.bytes ≡ bytes_of (ending_of long s)
+-- The bytes that end a reply, if there are any.
+abbrev pub ended : Option (List ℕ) → List ℕ
+ended None = []
+ended (Some bytes) = bytes
+
+-- The bytes that end a reply: those of its ending words.
+pub record EndsReply (long : Bool) (s : State) (t : Option (List ℕ)) : Type 0 where
+  pub said : ended t ≡ bytes_of (ending_of long s)

@@ -2,31 +2,28 @@
 #![tactic(auto)]
 
 ghost use Rattle.std.specs.Prelude.{◌≡◌, min};
-ghost use Rattle.ground.specs.Cases.{or_zero};
 ghost use Rattle.ground.specs.Verdict.{meant};
 ghost use Rattle.form.specs.Words.{bytes_of};
 ghost use Rattle.replies.specs.Reply.{opening_of, closing_of, Closes, EndsReply};
 
 use form::words;
-use ground::Reply;
+use ground::{Refusal, Reply};
 use part::state::State;
 
 // A place fits a word in every reply that can come; were it wider, it would count as the largest word.
 fn capped(place: usize) -> u32
     ensures { result ≡ min place 4294967295 }
 {
-    if place < 4_294_967_295 {
-        return place as u32;
-    }
-    4_294_967_295
+    u32::try_from(place).unwrap_or(u32::MAX)
 }
 
+#[tactic(auto, unfolding(ground::specs::Verdict::meant, crate::specs::Reply::opening_of))]
 fn opening_words(reply: Reply) -> [u32; 2]
     ensures { result ≡ opening_of (meant reply) }
 {
     match reply {
-        Reply::Accepted(count) => [0, capped(count)],
-        Reply::Refused { number, place } => [number as u32, capped(place)],
+        Ok(count) => [0, capped(count)],
+        Err(Refusal { reason, place }) => [u32::from(u8::from(reason)), capped(place)],
     }
 }
 
@@ -34,37 +31,25 @@ fn opening_words(reply: Reply) -> [u32; 2]
 pub fn opening(reply: Reply) -> [u8; 8]
     ensures { result ≡ bytes_of (opening_of (meant reply)) }
 {
-    let words = opening_words(reply);
-    let mut bytes = [0u8; 8];
-    words::encode(&words, &mut bytes);
+    let mut bytes = [0; 8];
+    words::encode(&opening_words(reply), &mut bytes);
     bytes
 }
 
-fn flag(on: bool) -> u32
-    ensures { result ≡ or_zero on 1 }
-{
-    if on {
-        return 1;
-    }
-    0
-}
-
+#[tactic(auto, unfolding(crate::specs::Reply::closing_of))]
 fn closing_words(register: u8, state: State) -> [u32; 8]
     ensures { result ≡ closing_of register state }
 {
-    let device = state.device;
-    let counter = device.counter;
     let timers = state.timers;
-    let watchdog = timers.watchdog;
     [
-        register as u32,
-        counter.0 as u32,
+        u32::from(register),
+        u32::from(state.device.counter.0),
         timers.write,
-        flag(timers.reset),
+        u32::from(timers.reset),
         timers.hold,
-        flag(timers.low),
-        flag(watchdog.running),
-        watchdog.left,
+        u32::from(timers.low),
+        u32::from(timers.watchdog.running),
+        timers.watchdog.left,
     ]
 }
 
@@ -72,30 +57,17 @@ fn closing_words(register: u8, state: State) -> [u32; 8]
 pub fn closing(state: State) -> [u8; 32]
     ensures { Closes state result }
 {
-    let register = power::register(state);
-    let words = closing_words(register, state);
-    let mut bytes = [0u8; 32];
+    let words = closing_words(power::register(state), state);
+    let mut bytes = [0; 32];
     words::encode(&words, &mut bytes);
     bytes
 }
 
-// The bytes that end a reply: so many from the front.
-#[derive(Clone, Copy)]
-pub struct Tail {
-    pub bytes: [u8; 4],
-    pub length: usize,
-}
-
 // What a long case is told beyond the closing words: how many words more there are, and these. So far
 // there are none, whatever the state.
-pub fn ending(long: bool, state: State) -> Tail
+#[tactic(auto, unfolding(crate::specs::Reply::ending_of))]
+pub fn ending(long: bool, state: State) -> Option<[u8; 4]>
     ensures { EndsReply long state result }
 {
-    let words = [0u32];
-    let mut bytes = [0u8; 4];
-    if long {
-        words::encode(&words, &mut bytes);
-        return Tail { bytes, length: 4 };
-    }
-    Tail { bytes, length: 0 }
+    long.then_some(0u32.to_le_bytes())
 }

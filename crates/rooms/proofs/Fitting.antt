@@ -16,7 +16,6 @@ pub record Fits (case room : Lengths) : Type 0 where
   pub answers : case.answers ≤ room.answers
 
 pub fits_all : (case room : Lengths) {r : Bool} → r ≡ fits_of case room → r ≡ true → Fits case room
-unfolding fits_of
 fits_all case room e t =
     let a = and_split _ _ (rw e at t) in
     let b = and_split _ _ a.1 in

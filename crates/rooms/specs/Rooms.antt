@@ -9,7 +9,7 @@ asked_of h =
     record { array = h.array; raw = h.elapsed * 4; elapsed = h.elapsed; levels = h.levels; answers = h.answers }
 
 -- No row is longer than its room.
-unfoldable pub fits_of : Lengths → Lengths → Bool
+abbrev pub fits_of : Lengths → Lengths → Bool
 fits_of case room =
     leb case.array room.array
     && (leb case.raw room.raw

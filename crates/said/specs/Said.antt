@@ -1,5 +1,5 @@
 -- What one sample says, entry by entry (document 01, State and time; Bytes on the wire; Control register; request 2026-02).
-use Rattle.std.specs.Prelude.{ℕ, Bool, ◌&&◌, List, ◌++◌}
+use Rattle.std.specs.Prelude.{ℕ, Bool, ◌&&◌, List, ◌++◌, Option, Some, None}
 use Rattle.ground.specs.Kind.{kind_of}
 use Rattle.timers.specs.Timers.{writes, write_fell}
 use Rattle.page.specs.Page.{marked}
@@ -11,8 +11,6 @@ use Rattle.wire.specs.declared.Sign.TheVariants as sign
 use Rattle.ends.specs.Ends.{cuts_off}
 use Rattle.withheld.specs.Withheld.{reason_of}
 use Rattle.entries.specs.Entries.{edge_by, told_of}
-use Rattle.entries.specs.declared.Told.{Told}
-use Rattle.entries.specs.declared.Told.TheVariants.{Nothing, One}
 use Rattle.entries.specs.declared.Entry.{Entry}
 use Rattle.entries.specs.declared.Entry.TheVariants.{Start, Stop, Byte, Ninth, CycleBegins, CycleEnds, ResetBegins, ResetEnds}
 use Rattle.sample.specs.Sample.{sign_in, Seen, unseen, sees, seen_by}
@@ -27,17 +25,17 @@ stop_says n d l = stop_says_by (cuts_off d.talk.phase n) n (marked l) d.control.
 
 -- What a sign says, as the state before it met it: a start the bits committed before it, a byte its phase and why it is not acknowledged, a
 -- ninth bit the part's own SDA level (State and time, 4; Bytes on the wire, acknowledged from the eighth fall to the ninth).
-abbrev pub said_by : Sign → State → Told
-said_by sign.Quiet s = Nothing
-said_by sign.Start s = One (Start s.wire.frame.bits)
-said_by (sign.Stop n) s = One (stop_says n s.device s.load)
-said_by sign.Bit s = Nothing
-said_by (sign.Byte v) s = One (Byte s.device.talk.phase v (reason_of (kind_of s.chip.part) s.device))
-said_by (sign.Ninth b) s = One (Ninth b s.device.talk.own)
+abbrev pub said_by : Sign → State → Option Entry
+said_by sign.Quiet s = None
+said_by sign.Start s = Some (Start s.wire.frame.bits)
+said_by (sign.Stop n) s = Some (stop_says n s.device s.load)
+said_by sign.Bit s = None
+said_by (sign.Byte v) s = Some (Byte s.device.talk.phase v (reason_of (kind_of s.chip.part) s.device))
+said_by (sign.Ninth b) s = Some (Ninth b s.device.talk.own)
 
 -- What is seen says (State and time, 3 and 4).
-abbrev pub heard_in : Seen → State → Told
-heard_in unseen s = Nothing
+abbrev pub heard_in : Seen → State → Option Entry
+heard_in unseen s = None
 heard_in (sees sign) s = said_by sign s
 
 -- One sample between two states: what time and supply did, then the sign, then a write cycle begun (State and time, 1 to 4).

@@ -6,70 +6,57 @@ ghost use Rattle.entries.specs.Entries.{Says};
 ghost use Rattle.sample.specs.Sample.{sign_in, seen_by};
 ghost use Rattle.said.specs.Said.{stop_says, said_by, heard_in, sample_says};
 
-use entries::{Entry, Told};
+use entries::Entry;
 use ground::kinds;
 use levels::answers;
 use part::state::{Device, Load, State};
 use wire::Sign;
 
 // What a stop says: a byte that it cuts off takes the load and a pending register byte with it.
+#[tactic(auto, unfolding(crate::specs::Said::stop_says))]
 fn stop(bits: u8, device: Device, load: Load) -> Entry
     ensures { result ≡ stop_says bits device load }
 {
-    let talk = device.talk;
-    let control = device.control;
-    let phase = talk.phase;
-    let marks = load.marks;
-    let cut = ends::cuts_off(phase, bits);
-    let loaded = page::marked(marks);
+    let cut = ends::cuts_off(device.talk.phase, bits);
     Entry::Stop {
         bits,
         cut,
-        load: cut & loaded,
-        register: cut & control.pending,
+        load: cut & page::marked(load.marks),
+        register: cut & device.control.pending,
     }
 }
 
 // What a sign says, as the state before it met it.
-fn say(sign: Sign, before: State) -> Told
+fn say(sign: Sign, before: State) -> Option<Entry>
     ensures { result ≡ said_by sign before }
 {
     let device = before.device;
-    let talk = device.talk;
-    let bus = before.wire;
-    let frame = bus.frame;
-    let chip = before.chip;
     match sign {
-        Sign::Quiet => Told::Nothing,
-        Sign::Start => Told::One(Entry::Start(frame.bits)),
-        Sign::Stop(bits) => Told::One(stop(bits, device, before.load)),
-        Sign::Bit => Told::Nothing,
+        Sign::Quiet | Sign::Bit => None,
+        Sign::Start => Some(Entry::Start(before.wire.frame.bits)),
+        Sign::Stop(bits) => Some(stop(bits, device, before.load)),
         Sign::Byte(v) => {
-            let phase = talk.phase;
-            let why = withheld::reason(kinds::kind_of(chip.part), device);
-            Told::One(Entry::Byte(phase, v, why))
+            let why = withheld::reason(kinds::kind_of(before.chip.part), device);
+            Some(Entry::Byte(device.talk.phase, v, why))
         }
-        Sign::Ninth(line) => Told::One(Entry::Ninth {
+        Sign::Ninth(line) => Some(Entry::Ninth {
             line,
-            own: talk.own,
+            own: device.talk.own,
         }),
     }
 }
 
 // What the sign of a sample says; nothing while reset is active.
-fn hear(reset: bool, level: u8, before: State) -> Told
+#[tactic(auto, unfolding(sample::specs::Sample::sign_in))]
+fn hear(reset: bool, level: u8, before: State) -> Option<Entry>
     ensures { result ≡ heard_in (seen_by reset (sign_in level before)) before }
 {
     if reset {
-        return Told::Nothing;
+        return None;
     }
-    let device = before.device;
-    let talk = device.talk;
-    let bus = before.wire;
-    let sda = answers::line(level, talk.own);
-    let seen = wire::see(bus, answers::scl(level), sda);
-    let sign = seen.sign;
-    say(sign, before)
+    let sda = answers::line(level, before.device.talk.own);
+    let seen = wire::see(before.wire, answers::scl(level), sda);
+    say(seen.sign, before)
 }
 
 // All that one sample says, from the states before and after it, laid over the row.

@@ -1,5 +1,5 @@
 -- Which sections may stand where, and what each token of one does (request 2026-03, sections; docs/DECISIONS.md, "2026-03, sections").
-use Rattle.std.specs.Prelude.{ℕ, Bool, true, false, not, List}
+use Rattle.std.specs.Prelude.{ℕ, Bool, true, false, not, List, Option, None, Some}
 use Rattle.tokens.specs.Tokens.{same_word}
 use Rattle.sections.specs.declared.Keyword.{Keyword}
 use Rattle.sections.specs.declared.Keyword.TheVariants.{Remark, Comment, Timescale, Scope, Var, Upscope, EndDefinitions, Dumpvars, End, Other}
@@ -8,7 +8,7 @@ use Rattle.sections.specs.declared.Stage.TheVariants.{Start, Scaled, Scoped, Clo
 use Rattle.sections.specs.declared.Place.{Place}
 use Rattle.sections.specs.declared.Place.TheVariants.{Between, Skipped, ScaleNumber, ScaleUnit, ScopeKind, ScopeName, VarKind, VarWidth, VarCode, VarName, Close, Values, Wrong}
 use Rattle.sections.specs.declared.Step.{Step}
-use Rattle.sections.specs.declared.Step.TheVariants.{Moves, Codes, Names, Defines, Breaks}
+use Rattle.sections.specs.declared.Step.TheVariants.{Moves, Codes, Names, Defines}
 use Rattle.sections.specs.Spelling.{keyword_of, is_end, free, is_scope_kind, one_word, micro_word, one_micro_word, wire_word}
 
 -- Where a token stands: how far the definitions are, and what is expected.
@@ -27,13 +27,13 @@ pub data Says : Type 0 where
   puts : ℕ → ℕ → Says
   breaks : Says
 
--- What each case of the code's answer says.
-unfoldable pub step_meant : Step → Says
-step_meant (Moves stage place) = moves (record { stage = stage; place = place })
-step_meant Codes = codes
-step_meant Names = names
-step_meant Defines = defines
-step_meant Breaks = breaks
+-- What each case of the code's answer says; none is of a malformed token.
+unfoldable pub step_meant : Option Step → Says
+step_meant (Some (Moves stage place)) = moves (record { stage = stage; place = place })
+step_meant (Some Codes) = codes
+step_meant (Some Names) = names
+step_meant (Some Defines) = defines
+step_meant None = breaks
 
 -- Before the timescale (2026-03, sections: each once, in that order).
 abbrev pub is_start : Stage → Bool

@@ -5,10 +5,10 @@ mod keywords;
 mod steps;
 
 pub use keywords::keyword_of;
-pub use steps::{hear, is_body, open};
+pub use steps::{hear, open};
 
 // How far the definitions are: which of the sections that come once have begun.
-#[derive(Clone, Copy)]
+#[derive(Clone, Copy, Debug, PartialEq, Eq)]
 pub enum Stage {
     Start,
     Scaled,
@@ -19,7 +19,7 @@ pub enum Stage {
 
 // What the next token is taken for. `Between` is outside every section, `Skipped` inside one that is not looked at, `Close` before the
 // `$end` of any other, and `Wrong` behind the first token that is malformed.
-#[derive(Clone, Copy)]
+#[derive(Clone, Copy, Debug, PartialEq, Eq)]
 pub enum Place {
     Between,
     Skipped,
@@ -37,7 +37,7 @@ pub enum Place {
 }
 
 // A word that begins or ends a section. `Remark` is $date or $version.
-#[derive(Clone, Copy)]
+#[derive(Clone, Copy, Debug, PartialEq, Eq)]
 pub enum Keyword {
     Remark,
     Comment,
@@ -51,12 +51,12 @@ pub enum Keyword {
     Other,
 }
 
-// What a token of a section does: it leads to another place, is the code or the name of a wire, ends the definitions, or is malformed.
-#[derive(Clone, Copy)]
+// What a token of a section does: it leads to another place, is the code or the name of a wire, or ends the definitions. A malformed one
+// does nothing.
+#[derive(Clone, Copy, Debug, PartialEq, Eq)]
 pub enum Step {
     Moves { stage: Stage, place: Place },
     Codes,
     Names,
     Defines,
-    Breaks,
 }

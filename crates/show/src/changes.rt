@@ -1,21 +1,18 @@
 // Which bytes of the array changed.
-use crate::printing;
 use std::io;
 use std::io::Write;
-use texts::rows;
 
 // A line for each byte that changed.
 pub fn put_changes<W: Write>(out: &mut W, before: &[u8], after: &[u8]) -> io::Result<()> {
-    let mut at = rows::next_difference(before, after, 0);
-    if after.len() <= at {
-        return out.write_all(b"array: nothing changed\n");
-    }
-    while at < after.len() {
-        if before.len() <= at {
-            return Ok(());
+    let mut changed = false;
+    for (place, (old, new)) in before.iter().zip(after).enumerate() {
+        if old != new {
+            writeln!(out, "array: {place:04X} {old:02X} -> {new:02X}")?;
+            changed = true;
         }
-        printing::put_change(out, at, before[at], after[at])?;
-        at = rows::next_difference(before, after, at + 1);
+    }
+    if !changed {
+        writeln!(out, "array: nothing changed")?;
     }
     Ok(())
 }

@@ -1,76 +1,65 @@
 // What an entry's number tells beside its tag and value: why an acknowledge was withheld, and what a
 // stop cut off. Codes and pages are printed as the list has them.
-use crate::printing;
+use crate::entry::Entry;
 use part::state::PAGE;
-use std::io;
-use std::io::Write;
-use texts::numbers;
+use std::fmt;
 use transfers::tags;
 
-fn note_of(number: u64) -> u8 {
-    (number / tags::NOTE % 256) as u8
-}
+// Why the acknowledge of a byte was withheld; no text where it was not. A code is what a note has over a
+// multiple of `LOCKED`; it locks from the first address of its first page to the last of its last.
+#[derive(Clone, Copy)]
+pub struct Withheld(pub Entry);
 
-fn put_address<W: Write>(out: &mut W, address: u16) -> io::Result<()> {
-    let digits = numbers::address(address);
-    out.write_all(&digits)
-}
-
-// A block code with the addresses that it locks, from the first of its first page to the last of its
-// last.
-fn put_lock<W: Write>(out: &mut W, code: u8, pages: u16) -> io::Result<()> {
-    out.write_all(b": page locked, code ")?;
-    printing::put_decimal(out, code as u64)?;
-    out.write_all(b" locks ")?;
-    put_address(out, pages % 256 * PAGE)?;
-    out.write_all(b" to ")?;
-    put_address(out, pages / 256 * PAGE + (PAGE - 1))
-}
-
-// Why the acknowledge of a byte was withheld; nothing where it was not. A code is what a note has over
-// a multiple of `LOCKED`.
-fn put_reason<W: Write>(out: &mut W, number: u64) -> io::Result<()> {
-    let note = note_of(number);
-    match note {
-        tags::NO_REASON => Ok(()),
-        tags::WEL_LOW => out.write_all(b": WEL is low"),
-        tags::SECOND_BYTE => out.write_all(b": second register byte"),
-        _ => put_lock(
-            out,
-            note % tags::LOCKED,
-            (number / tags::PAGES % 65_536) as u16,
-        ),
+impl fmt::Display for Withheld {
+    fn fmt<W: fmt::Write>(&self, f: &mut fmt::Formatter<W>) -> fmt::Result {
+        let entry = self.0;
+        match entry.note() {
+            tags::NO_REASON => Ok(()),
+            tags::WEL_LOW => write!(f, ": WEL is low"),
+            tags::SECOND_BYTE => write!(f, ": second register byte"),
+            note => {
+                let (first, last) = entry.pages();
+                let code = note % tags::LOCKED;
+                let from = u16::from(first) * PAGE;
+                let to = u16::from(last) * PAGE + (PAGE - 1);
+                write!(f, ": page locked, code {code} locks {from:04X} to {to:04X}")
+            }
+        }
     }
-}
-
-// Ends the line of a byte that the part did not acknowledge in its ninth clock.
-pub fn put_no_acknowledge<W: Write>(out: &mut W, text: &[u8], number: u64) -> io::Result<()> {
-    out.write_all(text)?;
-    put_reason(out, number)?;
-    out.write_all(b"\n")
-}
-
-// Ends the line of a byte that had no ninth clock.
-pub fn put_broken_off<W: Write>(out: &mut W, number: u64) -> io::Result<()> {
-    out.write_all(b"broken off before its ninth clock")?;
-    if note_of(number) != tags::NO_REASON {
-        out.write_all(b", no acknowledge")?;
-    }
-    put_reason(out, number)?;
-    out.write_all(b"\n")
 }
 
 // What a stop cut off, and what was dropped by that.
-pub fn put_cut_off<W: Write>(out: &mut W, number: u64) -> io::Result<()> {
-    let note = note_of(number);
-    if note / tags::CUT % 2 == 1 {
-        out.write_all(b": byte cut short")?;
+#[derive(Clone, Copy)]
+pub struct CutOff(pub Entry);
+
+impl fmt::Display for CutOff {
+    fn fmt<W: fmt::Write>(&self, f: &mut fmt::Formatter<W>) -> fmt::Result {
+        let entry = self.0;
+        let note = entry.note();
+        if note & tags::CUT != 0 {
+            write!(f, ": byte cut short")?;
+        }
+        if note & tags::LOAD_DROPPED != 0 {
+            write!(f, ", load dropped")?;
+        }
+        if note & tags::REGISTER_DROPPED != 0 {
+            write!(f, ", register byte dropped")?;
+        }
+        Ok(())
     }
-    if note / tags::LOAD_DROPPED % 2 == 1 {
-        out.write_all(b", load dropped")?;
+}
+
+// The bits of a byte that a start or a stop cut off. A whole byte has a line of its own.
+#[derive(Clone, Copy)]
+pub struct Bits(pub u8);
+
+impl fmt::Display for Bits {
+    fn fmt<W: fmt::Write>(&self, f: &mut fmt::Formatter<W>) -> fmt::Result {
+        let bits = self.0;
+        match bits {
+            1 => write!(f, " after 1 bit of a byte"),
+            2..=7 => write!(f, " after {bits} bits of a byte"),
+            _ => Ok(()),
+        }
     }
-    if note / tags::REGISTER_DROPPED % 2 == 1 {
-        out.write_all(b", register byte dropped")?;
-    }
-    Ok(())
 }

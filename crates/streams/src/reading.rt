@@ -10,6 +10,7 @@ use std::io::Read;
 pub fn read_full<R: Read>(reader: &mut R, room: &mut [u8]) -> io::Result<usize>
     ensures { IfOk result (λ n. IsPrefixLen n room.new) }
 {
+    // A `while`: a read may give less than was asked for.
     let mut done = 0;
     while done < room.len() {
         let n = reader.read(&mut room[done..])?;

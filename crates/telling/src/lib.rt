@@ -16,24 +16,27 @@ pub const DONE: u8 = 1;
 
 pub const NOT_DONE: u8 = 0;
 
+// A reply as two numbers: 0 and the count, or the refusal's number and its place.
+#[tactic(auto, unfolding(ground::specs::Verdict::meant))]
+fn numbers_of(reply: Reply) -> [u64; NUMBERS]
+    ensures { result ≡ told (meant reply) }
+{
+    match reply {
+        Ok(count) => [0, count as u64],
+        Err(refusal) => [u64::from(u8::from(refusal.reason)), refusal.place as u64],
+    }
+}
+
 // Writes a reply as two numbers.
 pub fn tell(row: &mut [u64], reply: Reply)
     requires { length row.old ≡ 2 }
     ensures { row.new ≡ told (meant reply) }
 {
-    match reply {
-        Reply::Accepted(count) => {
-            row[0] = 0;
-            row[1] = count as u64;
-        }
-        Reply::Refused { number, place } => {
-            row[0] = number as u64;
-            row[1] = place as u64;
-        }
-    }
+    row.copy_from_slice(&numbers_of(reply));
 }
 
-// Reads an image into the array of a part.
+// Reads an image into the array of a part. The row's length is tested here and below: a closure round the operation would say no more
+// of the rows that are lent to it.
 pub fn read_image(part: u16, text: &[u8], array: &mut [u8], reply: &mut [u64]) -> u8
     ensures { ReadsThrough part text.now array.old reply.old result array.new reply.new }
 {

@@ -30,8 +30,7 @@ pub fn byte(value: u8) -> [u8; 2]
 pub fn address(value: u16) -> [u8; 4]
     ensures { result ≡ address_text value }
 {
-    let high = (value / 256) as u8;
-    let low = (value % 256) as u8;
+    let [high, low] = value.to_be_bytes();
     [
         digits::high(high),
         digits::low(high),

@@ -7,12 +7,11 @@ use streams::{arguments, reading};
 
 // A word that is longer than its room is read as an empty one, and so is no number.
 fn main(rt: HostRuntime) -> io::Result<()> {
-    let mut word = arguments::room();
-    let part = arguments::word_at(&rt, 1, &mut word);
-    let mut text = tidying::rooms::text_room();
+    let mut room = arguments::room();
+    let part = arguments::given_at(&rt, 1, &mut room);
+    let mut text = [0; tidying::rooms::TEXT];
     let length = reading::read_full(&mut rt.stdin(), &mut text)?;
-    let mut out = tidying::rooms::out_room();
-    let word_length = part.length;
-    let written = tidying::by_word(part.given, &word[..word_length], &text[..length], &mut out);
+    let mut out = [0; tidying::rooms::FORM];
+    let written = tidying::by_word(part, &text[..length], &mut out);
     rt.stdout().write_all(&out[..written])
 }

@@ -2,22 +2,14 @@
 // what is written for it. An argument that is a number names no file but the part of the files after it; before the first it is 4323.
 #![tactic(auto)]
 
-use std::env::Env;
 use std::fs::Files;
 use std::io;
 use std::io::Write;
 use streams::{arguments, files};
 
-// Where the program stands after an argument: the part of the next file, and whether it goes on.
-#[derive(Clone, Copy)]
-struct Turn {
-    part: u16,
-    goes_on: bool,
-}
-
 // The text of a file through the program's function, after the line with its name.
 fn show<W: Write>(part: u16, text: &[u8], name: &[u8], out: &mut W) -> io::Result<()> {
-    let mut shown = tidying::rooms::out_room();
+    let mut shown = [0; tidying::rooms::FORM];
     let written = tidying::fixed_form(part, text, &mut shown);
     out.write_all(b"== ")?;
     out.write_all(name)?;
@@ -36,7 +28,7 @@ fn show_file<R: Files, W: Write, E: Write>(
     let Some(mut file) = files::open(rt, errors, name)? else {
         return Ok(false);
     };
-    let mut text = tidying::rooms::text_room();
+    let mut text = [0; tidying::rooms::TEXT];
     let Some(length) = files::read_full(&mut file, errors, name, &mut text)? else {
         return Ok(false);
     };
@@ -44,54 +36,36 @@ fn show_file<R: Files, W: Write, E: Write>(
     Ok(true)
 }
 
-// A part's number, or the file that a word names; it goes on if the file is shown.
+// A part's number, or the file that a word names; answers the part of the next file, or none where that file cannot be shown.
 fn take<R: Files, W: Write, E: Write>(
     rt: &R,
     part: u16,
     word: &[u8],
     out: &mut W,
     errors: &mut E,
-) -> io::Result<Turn> {
+) -> io::Result<Option<u16>> {
     if words::is_number(word) {
-        return Ok(Turn {
-            part: words::part_named(true, word),
-            goes_on: true,
-        });
+        return Ok(Some(words::part_given(Some(word))));
     }
-    let goes_on = show_file(rt, part, word, out, errors)?;
-    Ok(Turn { part, goes_on })
+    let shown = show_file(rt, part, word, out, errors)?;
+    Ok(shown.then_some(part))
 }
 
-// The argument at a position; it does not go on where there is no such argument, or one that is longer than its room.
-fn take_argument<R: Env + Files, W: Write, E: Write>(
-    rt: &R,
-    part: u16,
-    position: usize,
-    out: &mut W,
-    errors: &mut E,
-) -> io::Result<Turn> {
-    let mut word = arguments::room();
-    let argument = arguments::word_at(rt, position, &mut word);
-    if !argument.whole {
-        return Ok(Turn {
-            part,
-            goes_on: false,
-        });
-    }
-    let length = argument.length;
-    take(rt, part, &word[..length], out, errors)
-}
-
+// The arguments end where there is none, or one that is longer than its room.
 fn main(rt: HostRuntime) -> io::Result<()> {
     let mut out = rt.stdout();
     let mut errors = rt.stderr();
     let mut part = words::LEFT_OUT;
+    // Counted to a number that no run reaches: nothing says that the words end.
     for position in 1..usize::MAX {
-        let turn = take_argument(&rt, part, position, &mut out, &mut errors)?;
-        if !turn.goes_on {
+        let mut room = arguments::room();
+        let Ok(word) = arguments::word_at(&rt, position, &mut room) else {
             break;
-        }
-        part = turn.part;
+        };
+        let Some(next) = take(&rt, part, word, &mut out, &mut errors)? else {
+            break;
+        };
+        part = next;
     }
     Ok(())
 }

@@ -7,23 +7,24 @@ use native.Mathlib.Omega.{arith}
 use lib.ListN.{length, drop, length-append}
 use lib.Seq.{length-take-le}
 use borrow.Author.Tests.{eq-eqb, le-leb}
+use Rattle.std.specs.Prelude.{Result, Ok, Err}
 use Rattle.ground.specs.Numbers.{large_size}
 use Rattle.ground.specs.Kind.{kind_of, known}
-use Rattle.ground.specs.Verdict.{accepted, refused}
-use Rattle.ground.specs.declared.Reply.{Reply}
-use Rattle.ground.specs.declared.Reply.TheVariants.{Accepted, Refused}
+use Rattle.ground.specs.Verdict.{accepted, refused, number_of}
+use Rattle.ground.specs.declared.Refusal.{Refusal}
 use Rattle.ground.proofs.Verdicts.{is-accepted, is-refused, apart}
 use Rattle.forms.specs.Reading.{Reading, taken, bad, reading_of}
 use Rattle.forms.specs.Writing.{image_text, length_of, most_length}
 use Rattle.forms.proofs.Lengths.{lines-most, length-image}
 use Rattle.intel.specs.Intel.{intel}
-use Rattle.formats.proofs.Named.{intel-measured}
+use Rattle.formats.specs.Measured.{intel-measured}
 use Rattle.reader.specs.Answers.{verdict_of, array_after}
 use Rattle.image.specs.Promises.{sized, image_by, image_of, write_verdict, ReadsImage, WritesImage}
 use Rattle.image.proofs.Sizes.{kind-most}
 use Rattle.texts.specs.Refusal.{refusal_line}
 use Rattle.texts.specs.Laying.{Starts}
 use Rattle.tidying.specs.Shown.{text_gives, shown_of}
+use Rattle.tidying.specs.Parts.{Tidies}
 
 -- An array of the part's size passes the test.
 right-size : (part : ℕ) (array : List ℕ) → length array ≡ (kind_of part).size → sized part (length array) ≡ true
@@ -41,11 +42,11 @@ module _ (part : ℕ) (array out : List ℕ) (b : known part ≡ true) (h : leng
       omega (arith, lines-most intel ((kind_of part).size / 16) (large_size / 16) l) in
       rw (b, right-size part array h, le-leb (most_length intel (kind_of part).size) (length out) n)
 
-  pub image-refused : (out' : List ℕ) (r : Reply) (k p : ℕ) → WritesImage intel part array out r out' → r ≡ Refused k p → ⊥
-  image-refused out' r k p w e =
-      apart k p (length_of intel array) (sym (is-refused r (write_verdict intel part array out) k p w.reply e) ∙ written)
+  image-refused : (out' : List ℕ) (r : Result ℕ Refusal) (k : Refusal) → WritesImage intel part array out r out' → r ≡ Err k → ⊥
+  image-refused out' r k w e =
+      apart _ _ (length_of intel array) (sym (is-refused r (write_verdict intel part array out) k w.reply e) ∙ written)
 
-  pub image-starts : (out' : List ℕ) (r : Reply) (n : ℕ) → WritesImage intel part array out r out' → r ≡ Accepted n
+  image-starts : (out' : List ℕ) (r : Result ℕ Refusal) (n : ℕ) → WritesImage intel part array out r out' → r ≡ Ok n
       → Starts (image_text intel array) out n out'
   image-starts out' r n w e =
       let v : accepted n ≡ accepted (length_of intel array) =
@@ -55,6 +56,12 @@ module _ (part : ℕ) (array out : List ℕ) (b : known part ≡ true) (h : leng
       let l : length (image_text intel array) ≡ n = length-image intel intel-measured array ∙ q in
       let f : n ≤ length out' = omega (arith, ap length s, length-append (image_text intel array) (drop n out)) in
       record { shown = s; count = sym l; fits = (f, sym (length-take-le n out' f)) }
+
+  -- So what is shown of a text that gives this array starts the buffer.
+  pub tidies-image : (text out' : List ℕ) (r : Result ℕ Refusal) → shown_of part text ≡ image_text intel array → WritesImage intel part array out r out'
+      → Tidies part text out r out'
+  tidies-image text out' (Ok n) s w = record { cases = rw s (image-starts out' (Ok n) n w refl) }
+  tidies-image text out' (Err k) s w = absurd (image-refused out' (Err k) k w refl)
 
 -- What a reading was, by its verdict.
 bad-of : (v : Reading) (n k p : ℕ) → verdict_of v n ≡ refused k p → v ≡ bad k p
@@ -70,31 +77,26 @@ known_by : (b c : Bool) (v : Reading) (array : List ℕ) → image_by b c v ≡ 
 known_by true c v array e = refl
 known_by false c v array e = absurd (true≢false (cc))
 
-module _ (part : ℕ) (text array array' : List ℕ) (r : Reply) (h : length array ≡ (kind_of part).size)
+module _ (part : ℕ) (text array array' : List ℕ) (r : Result ℕ Refusal) (h : length array ≡ (kind_of part).size)
     (w : ReadsImage intel part text array r array') where
   -- The array that was lent decides nothing, only the part and the text.
   text-decides : image_of intel part text array ≡ text_gives part text
   unfolding image_of
   text-decides = rw (right-size part array h)
 
-  read_taken : (m : ℕ) → r ≡ Accepted m → image_of intel part text array ≡ taken array'
+  read_taken : (m : ℕ) → r ≡ Ok m → image_of intel part text array ≡ taken array'
   read_taken m e = taken_of (image_of intel part text array) array array' (length text) m (is-accepted r _ m w.reply e) w.kept
 
   -- What was read and accepted is of a known part.
-  pub read_known : (m : ℕ) → r ≡ Accepted m → known part ≡ true
+  pub read_known : (m : ℕ) → r ≡ Ok m → known part ≡ true
   read_known m e =
       known_by (known part) true (reading_of intel (kind_of part).size text) array' (sym text-decides ∙ read_taken m e)
 
   -- What is shown of a text that is read, by the reply.
-  pub shows-refusal : (out out' : List ℕ) (k p n : ℕ) → r ≡ Refused k p → Starts (refusal_line k p) out n out'
-      → Starts (shown_of part text) out n out'
+  pub shows-refusal : (k : Refusal) → r ≡ Err k → shown_of part text ≡ refusal_line (number_of k.reason) k.place
   unfolding shown_of
-  shows-refusal out out' k p n e s =
-      let b : image_of intel part text array ≡ bad k p =
-      bad-of (image_of intel part text array) (length text) k p (is-refused r _ k p w.reply e) in
-      rw (sym text-decides ∙ b) s
+  shows-refusal k e = rw (sym text-decides ∙ bad-of (image_of intel part text array) (length text) _ _ (is-refused r _ k w.reply e))
 
-  pub shows-image : (out out' : List ℕ) (m n : ℕ) → r ≡ Accepted m → Starts (image_text intel array') out n out'
-      → Starts (shown_of part text) out n out'
+  pub shows-image : (m : ℕ) → r ≡ Ok m → shown_of part text ≡ image_text intel array'
   unfolding shown_of
-  shows-image out out' m n e s = rw (sym text-decides ∙ read_taken m e) s
+  shows-image m e = rw (sym text-decides ∙ read_taken m e)

@@ -1,18 +1,7 @@
-// Room for what a program reads and writes: zeros. That its length is said beside its content is for those who lend it as a slice.
-ghost use Rattle.std.specs.Prelude.{◌≡◌, length, replicate};
+// How much room a program makes for what it reads and writes: an array of zeros, as `[0; rooms::TEXT]`.
 
 // One byte more than the longest text: a text that fills it is too long, whatever follows.
-pub fn text_room() -> [u8; 65537]
-    ensures value { 65537 ≡ length result }
-    ensures value_2 { result ≡ replicate 65537 0 }
-{
-    [0; 65537]
-}
+pub const TEXT: usize = image::MOST_TEXT + 1;
 
 // The longest fixed form of the largest array.
-pub fn out_room() -> [u8; image::LONGEST]
-    ensures value { 45068 ≡ length result }
-    ensures value_2 { result ≡ replicate 45068 0 }
-{
-    [0; image::LONGEST]
-}
+pub const FORM: usize = image::LONGEST;

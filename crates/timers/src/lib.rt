@@ -1,7 +1,7 @@
 // Rules 1 and 2 of a sample: time passes, and the supply is good or low.
 #![tactic(auto)]
 
-ghost use Rattle.std.specs.Prelude.{◌≡◌, ◌-◌};
+ghost use Rattle.std.specs.Prelude.{◌≡◌};
 ghost use Rattle.timers.specs.Timers.{loaded_of, timed_of, supplied_of};
 
 use part::state::{Timers, Watchdog};
@@ -16,84 +16,72 @@ pub const MIDDLE_WATCH: u32 = 600_000;
 
 pub const SHORT_WATCH: u32 = 200_000;
 
-// What is left of a time, not below 0.
-pub fn less(time: u32, elapsed: u32) -> u32
-    ensures { result ≡ time - elapsed }
-{
-    if elapsed < time { time - elapsed } else { 0 }
-}
-
 // The watchdog as a control byte's WD bits load it.
+#[tactic(auto, unfolding(crate::specs::Timers::loaded_of))]
 pub fn loaded(stored: u8) -> Watchdog
     ensures { result ≡ loaded_of stored }
 {
-    let code = stored / 32 % 4;
-    match code {
-        0 => Watchdog {
-            running: true,
-            left: LONG_WATCH,
-        },
-        1 => Watchdog {
-            running: true,
-            left: MIDDLE_WATCH,
-        },
-        2 => Watchdog {
-            running: true,
-            left: SHORT_WATCH,
-        },
-        _ => Watchdog {
-            running: false,
-            left: 0,
-        },
-    }
+    let (running, left) = match stored / 32 % 4 {
+        0 => (true, LONG_WATCH),
+        1 => (true, MIDDLE_WATCH),
+        2 => (true, SHORT_WATCH),
+        _ => (false, 0),
+    };
+    Watchdog { running, left }
 }
 
 // Rule 1: the timers after an elapsed time, with the control byte that loads the watchdog.
+#[tactic(auto, unfolding(crate::specs::Timers::timed_of))]
 pub fn timed(stored: u8, elapsed: u32, t: Timers) -> Timers
     ensures { result ≡ timed_of stored elapsed t }
 {
-    let write = less(t.write, elapsed);
-    let mut next = t;
-    next.write = write;
+    let t = Timers {
+        write: t.write.saturating_sub(elapsed),
+        ..t
+    };
     if t.reset {
         if t.low {
-            return next;
+            return t;
         }
-        let hold = less(t.hold, elapsed);
-        next.hold = hold;
+        let hold = t.hold.saturating_sub(elapsed);
         if hold == 0 {
-            let watchdog = loaded(stored);
-            next.reset = false;
-            next.watchdog = watchdog;
-            return next;
+            return Timers {
+                hold,
+                reset: false,
+                watchdog: loaded(stored),
+                ..t
+            };
         }
-        return next;
+        return Timers { hold, ..t };
     }
-    let watchdog = t.watchdog;
-    if watchdog.running {
-        let left = less(watchdog.left, elapsed);
-        next.watchdog.left = left;
+    if t.watchdog.running {
+        let left = t.watchdog.left.saturating_sub(elapsed);
+        let watchdog = Watchdog { left, ..t.watchdog };
         if left == 0 {
-            next.reset = true;
-            next.hold = RESET_HOLD;
-            return next;
+            return Timers {
+                hold: RESET_HOLD,
+                reset: true,
+                watchdog,
+                ..t
+            };
         }
-        return next;
+        return Timers { watchdog, ..t };
     }
-    next
+    t
 }
 
 // Rule 2: the timers as the supply leaves them.
+#[tactic(auto, unfolding(crate::specs::Timers::supplied_of))]
 pub fn supplied(good: bool, t: Timers) -> Timers
     ensures { result ≡ supplied_of good t }
 {
-    let mut next = t;
     if good {
-        next.low = false;
-        return next;
+        return Timers { low: false, ..t };
     }
-    next.reset = true;
-    next.hold = RESET_HOLD;
-    next.low = true;
-    next
+    Timers {
+        hold: RESET_HOLD,
+        reset: true,
+        low: true,
+        ..t
+    }
 }

@@ -1,20 +1,25 @@
 -- Laws of a text's tokens, for the proofs here and for callers. Assumes nothing.
 use Prim.Native.Nat.{ℕ, zero, suc, ◌+◌, ◌-◌, ◌<◌, ◌≤◌}
-use mathlib.Core.Bool.{Bool, true, false, not, ◌&&◌, true≢false}
+use mathlib.Core.Bool.{Bool, true, false, not, cond, ◌&&◌, true≢false}
 use mathlib.Core.List.{List, [], ◌∷◌, map}
 use mathlib.Core.Path.{◌≡◌, refl, ap, sym, subst, ◌∙◌}
 use native.Mathlib.Numerals.{add-one}
 use native.Mathlib.Omega.{arith}
-use lib.Dec.{eqb}
+use lib.Dec.{eqb, ltb}
 use lib.ListN.{length, get_or, take, drop, length-drop, drop_of_length-le}
-use lib.Seq.{drop-cons, drop-drop, get_or-take, get_or-drop, length-take-le}
-use borrow.Author.Tests.{eqb-true, eq-eqb, ne_eqb, not-true}
+use lib.Seq.{drop-cons, drop-drop, get_or-drop, length-take-le}
+use borrow.Author.Tests.{ltb-false, eqb-true, eq-eqb, ne_eqb, not-true}
 use Rattle.ground.proofs.Tests.{and_split}
 use Rattle.lines.specs.Lines.{line_feed, carriage_return}
-use Rattle.tokens.specs.declared.Found.{Found}
-use Rattle.tokens.specs.declared.Found.TheVariants.{Word, End}
+use Rattle.std.specs.Prelude.{Option, None, Some}
+use Rattle.std.specs.List.{position, position_or_len, count_by}
+use Rattle.std.specs.Option.{unwrap_or}
+use Rattle.std.specs.Cmp.Lexicographic.{pointwise}
+use Rattle.std.proofs.lemmas.List.Recursion.{is_count_by}
+use Rattle.std.proofs.lemmas.List.Sums.{prefix_len-le-length}
 use Rattle.tokens.specs.declared.Past.{Past}
-use Rattle.tokens.specs.Tokens.{Token, blank, goes_on, line_by, put_by, tokens_from, words_of, feeds_in, last_line, same_word}
+use Rattle.tokens.specs.declared.Word.{Word}
+use Rattle.tokens.specs.Tokens.{Token, blank, goes_on, line_by, put_by, tokens_from, words_of, feeds_in, same_word}
 use Rattle.tokens.specs.Parts.{Passes, solid, EndsWord, FindsWord, Finds}
 
 -- A character that parts no tokens ends no line.
@@ -29,9 +34,6 @@ module _ (c : ℕ) where
   pub blank-above : 0x20 < c → false ≡ blank c
   blank-above h =
       rw (above 0x20 (omega arith) h, above line_feed (omega arith) h, above carriage_return (omega arith) h, above 0x09 (omega arith) h)
-
-  pub blank-tab : (c ≡ 0x20 → ⊥) → (c ≡ line_feed → ⊥) → (c ≡ carriage_return → ⊥) → eqb c 0x09 ≡ blank c
-  blank-tab h k m = rw (ne_eqb c 0x20 h, ne_eqb c line_feed k, ne_eqb c carriage_return m)
 
 -- The words of a text are the same, whatever line it starts on.
 put-words : (b joins : Bool) (n m c : ℕ) (ts us : List Token)
@@ -64,11 +66,11 @@ unfolding words_of
 words-none text at line e = words-line 0 line (drop at text) ∙ ap (map (λ (t : Token). t.word)) e
 
 -- What is found, by its case.
-pub found_word : (text : List ℕ) (at line : ℕ) (r : Found) (f t n : ℕ) → Finds text at line r → r ≡ Word f t n
-    → FindsWord text at line f t n
-found_word text at line r f t n h e = subst (Finds text at line) e h
+pub found_word : (text : List ℕ) (at line : ℕ) (r : Option Word) (w : Word) → Finds text at line r → r ≡ Some w
+    → FindsWord text at line w.from w.to w.line
+found_word text at line r w h e = subst (Finds text at line) e h
 
-pub found-end : (text : List ℕ) (at line : ℕ) (r : Found) → Finds text at line r → r ≡ End → tokens_from line (drop at text) ≡ []
+pub found-end : (text : List ℕ) (at line : ℕ) (r : Option Word) → Finds text at line r → r ≡ None → tokens_from line (drop at text) ≡ []
 found-end text at line r h e = subst (Finds text at line) e h
 
 -- A word found is as long as its ends say.
@@ -104,17 +106,12 @@ other_length (c ∷ cs) (d ∷ ds) h = other-by (eqb c d) (same_word cs ds) (oth
     other-by true r e = e
     other-by false r e = refl
 
--- Two words from a place on: a character of each is compared, and those behind them.
-module _ (a b : List ℕ) (i : ℕ) where
-  pub same_turn : i < length a → i < length b → get_or a i 0 ≡ get_or b i 0
-      → same_word (drop (i + 1) a) (drop (i + 1) b) ≡ same_word (drop i a) (drop i b)
-  same_turn h k e = rw (add-one, drop-cons a i 0 h, drop-cons b i 0 k, eq-eqb (get_or a i 0) (get_or b i 0) e)
-
-  pub same_differs : i < length a → i < length b → (get_or a i 0 ≡ get_or b i 0 → ⊥) → false ≡ same_word (drop i a) (drop i b)
-  same_differs h k e = rw (drop-cons a i 0 h, drop-cons b i 0 k, ne_eqb (get_or a i 0) (get_or b i 0) e)
-
-  pub same_end : length a ≤ i → length b ≤ i → true ≡ same_word (drop i a) (drop i b)
-  same_end h k = rw (drop_of_length-le a h, drop_of_length-le b k)
+-- What `==` tells of two words.
+pub same-pointwise : (a b : List ℕ) → pointwise eqb a b ≡ same_word a b
+same-pointwise [] [] = refl
+same-pointwise [] (d ∷ ds) = refl
+same-pointwise (c ∷ cs) [] = refl
+same-pointwise (c ∷ cs) (d ∷ ds) = ap (λ b. eqb c d && b) (same-pointwise cs ds)
 
 -- The line behind a line feed, and behind any other character.
 pub line-feed : (c n m : ℕ) → c ≡ line_feed → m ≡ n + 1 → m ≡ line_by (eqb c line_feed) n
@@ -128,13 +125,51 @@ module _ (text : List ℕ) (i : ℕ) where
   pub goes-here : {r : Bool} → i < length text → r ≡ blank (get_or text i 0) → goes_on (drop i text) ≡ not r
   goes-here h e = rw (e, drop-cons text i 0 h)
 
-  pub goes-nowhere : length text ≤ i → goes_on (drop i text) ≡ false
-  goes-nowhere h = rw (drop_of_length-le text h)
-
   -- A blank is passed, and the line counted.
   pub pass-turn : (n m : ℕ) {r : Bool} → i < length text → r ≡ blank (get_or text i 0) → r ≡ true
       → m ≡ line_by (eqb (get_or text i 0) line_feed) n → tokens_from n (drop i text) ≡ tokens_from m (drop (i + 1) text)
   pass-turn n m h e f g = rw (add-one, g, drop-cons text i 0 h, sym e ∙ f)
+
+-- Up to its first blank a text is solid, and no token goes on there.
+solid-first : (xs : List ℕ) → solid (take (position_or_len blank xs) xs) ≡ true
+solid-first [] = refl
+solid-first (c ∷ cs) = by (blank c) refl (solid-first cs)
+  where
+    by : (b : Bool) → blank c ≡ b → solid (take (position_or_len blank cs) cs) ≡ true
+        → solid (take (position_or_len blank (c ∷ cs)) (c ∷ cs)) ≡ true
+    by true e s = rw e
+    by false e s = let one : 1 + position_or_len blank cs ≡ suc (position_or_len blank cs) = omega arith in rw (e, one, e) s
+
+goes-first : (xs : List ℕ) → goes_on (drop (position_or_len blank xs) xs) ≡ false
+goes-first [] = refl
+goes-first (c ∷ cs) = by (blank c) refl (goes-first cs)
+  where
+    by : (b : Bool) → blank c ≡ b → goes_on (drop (position_or_len blank cs) cs) ≡ false
+        → goes_on (drop (position_or_len blank (c ∷ cs)) (c ∷ cs)) ≡ false
+    by true e g = rw (e, e)
+    by false e g = let one : 1 + position_or_len blank cs ≡ suc (position_or_len blank cs) = omega arith in rw (e, one) g
+
+first-by : (xs : List ℕ) (b : Bool) → b ≡ ltb (position_or_len blank xs) (length xs)
+    → unwrap_or (cond b (Some (position_or_len blank xs)) None) (length xs) ≡ position_or_len blank xs
+first-by xs true e = refl
+first-by xs false e =
+    let above = ltb-false (position_or_len blank xs) (length xs) (sym e) in
+    omega (arith, prefix_len-le-length (λ x. not (blank x)) xs)
+
+pub or-length : (xs : List ℕ) → unwrap_or (position blank xs) (length xs) ≡ position_or_len blank xs
+or-length xs = first-by xs (ltb (position_or_len blank xs) (length xs)) refl
+
+pub ends-first : (text : List ℕ) (at n : ℕ) → at ≤ length text → n ≡ position_or_len blank (drop at text) → EndsWord text at (at + n)
+ends-first text at n a e =
+    let rest = drop at text in
+    let small : n ≤ length rest = omega (arith, prefix_len-le-length (λ x. not (blank x)) rest) in
+    let l : at + n - at ≡ n = omega arith in
+    record {
+      from = omega arith;
+      inside = omega (arith, length-drop {A = ℕ});
+      word = rw (l, e) (solid-first rest);
+      stops = let d : drop n rest ≡ drop (at + n) text = drop-drop n at text in rw (← d, e) (goes-first rest);
+    }
 
 -- A character more of a word.
 solid-more : (xs : List ℕ) (k : ℕ) → k < length xs → blank (get_or xs k 0) ≡ false → solid (take k xs) ≡ true
@@ -188,29 +223,10 @@ module _ (text : List ℕ) (at line : ℕ) (s : Past) (p : Passes text at line s
   pub finds-end : length text ≤ s.at → tokens_from line (drop at text) ≡ []
   finds-end h = p.left ∙ rw (drop_of_length-le text h)
 
--- The feeds before the last character: those so far, and those that are left.
-feeds-by : (b : Bool) (feeds left : ℕ) → line_by b feeds + left ≡ feeds + line_by b left
-feeds-by true feeds left = omega arith
-feeds-by false feeds left = refl
-
-module _ (text : List ℕ) (feeds i : ℕ) where
-  pub feeds-turn : 1 ≤ i → i < length text
-      → line_by (eqb (get_or text (i - 1) 0) line_feed) feeds + feeds_in (drop i (take (length text - 1) text))
-      ≡ feeds + feeds_in (drop (i - 1) (take (length text - 1) text))
-  feeds-turn h k =
-      let l = take (length text - 1) text in
-      let m : length l ≡ length text - 1 = length-take-le (length text - 1) text (omega arith) in
-      let j : i - 1 < length text - 1 = omega arith in
-      let n : suc (i - 1) ≡ i = omega arith in
-      let d : drop (i - 1) l ≡ get_or l (i - 1) 0 ∷ drop i l =
-      drop-cons l (i - 1) 0 (omega arith) ∙ ap (λ (k : ℕ). get_or l (i - 1) 0 ∷ drop k l) n in
-      rw (d, get_or-take (length text - 1) text (i - 1) 0 j)
-      (feeds-by (eqb (get_or text (i - 1) 0) line_feed) feeds (feeds_in (drop i l)))
-
-  pub feeds-end : length text ≤ i → feeds + feeds_in (drop (i - 1) (take (length text - 1) text)) ≡ last_line text → feeds ≡ last_line text
-  feeds-end h e =
-      let l = take (length text - 1) text in
-      let m : length l ≡ length text - 1 = length-take-le (length text - 1) text (omega arith) in
-      let k : length l ≤ i - 1 = omega arith in
-      let f = rw (drop_of_length-le l k) at e in
-      omega arith
+-- Line feeds are counted.
+pub feeds-count : (xs : List ℕ) → feeds_in xs ≡ count_by (λ x. eqb x line_feed) xs
+feeds-count = is_count_by feeds_in (λ x. eqb x line_feed) refl (λ x xs. by (eqb x line_feed) (feeds_in xs))
+  where
+    by : (b : Bool) (n : ℕ) → line_by b n ≡ cond b (1 + n) n
+    by true n = omega arith
+    by false n = refl

@@ -1,8 +1,7 @@
 -- What the functions over tokens promise.
-use Rattle.std.specs.Prelude.{ℕ, ◌-◌, ◌≤◌, ◌<◌, Bool, true, false, not, ◌&&◌, List, [], ◌∷◌, ◌≡◌, length, take, drop}
-use Rattle.tokens.specs.declared.Found.{Found}
-use Rattle.tokens.specs.declared.Found.TheVariants.{Word, End}
+use Rattle.std.specs.Prelude.{ℕ, ◌-◌, ◌≤◌, ◌<◌, Bool, true, false, not, ◌&&◌, List, [], ◌∷◌, ◌≡◌, length, take, drop, Option, None, Some}
 use Rattle.tokens.specs.declared.Past.{Past}
+use Rattle.tokens.specs.declared.Word.{Word}
 use Rattle.tokens.specs.Tokens.{blank, goes_on, tokens_from}
 
 -- A place past blanks: the same tokens are left from there, and a token begins there or the text ends.
@@ -34,6 +33,6 @@ pub record FindsWord (text : List ℕ) (at line from to on : ℕ) : Type 0 where
   pub left : tokens_from line (drop at text) ≡ record { line = on; word = take (to - from) (drop from text) } ∷ tokens_from on (drop to text)
 
 -- The next token, or that none is left.
-abbrev pub Finds : List ℕ → ℕ → ℕ → Found → Type 0
-Finds text at line (Word from to on) = FindsWord text at line from to on
-Finds text at line End = tokens_from line (drop at text) ≡ []
+abbrev pub Finds : List ℕ → ℕ → ℕ → Option Word → Type 0
+Finds text at line (Some w) = FindsWord text at line w.from w.to w.line
+Finds text at line None = tokens_from line (drop at text) ≡ []

@@ -1,23 +1,24 @@
 // The text of a dump as tokens: what stands between blanks, each with the line that it stands on, counted from 0.
 #![tactic(auto)]
 
-ghost use Rattle.std.specs.Prelude.{◌≡◌, true, ◌≤◌, length};
-ghost use Rattle.tokens.specs.Tokens.{blank, same_word, last_line};
+ghost use Rattle.std.specs.Prelude.{◌≡◌, ◌≤◌, length};
+ghost use Rattle.tokens.specs.Tokens.{blank, last_line};
 ghost use Rattle.tokens.specs.Parts.{Passes, EndsWord, Finds};
 
 pub const SPACE: u8 = 0x20;
 
 const TAB: u8 = 0x09;
 
-// The next token, by where it starts and ends, with its line; or that none is left.
-#[derive(Clone, Copy)]
-pub enum Found {
-    Word { from: usize, to: usize, line: usize },
-    End,
+// A token, by where it starts and ends, with its line.
+#[derive(Clone, Copy, Debug, PartialEq, Eq)]
+pub struct Word {
+    pub from: usize,
+    pub to: usize,
+    pub line: usize,
 }
 
 // A place in a text, and the line that it is on.
-#[derive(Clone, Copy)]
+#[derive(Clone, Copy, Debug, PartialEq, Eq)]
 pub struct Past {
     pub at: usize,
     pub line: usize,
@@ -27,19 +28,10 @@ pub struct Past {
 pub fn is_blank(character: u8) -> bool
     ensures { result ≡ blank character }
 {
-    if character > SPACE {
-        return false;
-    }
-    if character == SPACE {
-        return true;
-    }
-    if character == lines::LINE_FEED {
-        return true;
-    }
-    if character == lines::CARRIAGE_RETURN {
-        return true;
-    }
-    character == TAB
+    matches!(
+        character,
+        SPACE | lines::LINE_FEED | lines::CARRIAGE_RETURN | TAB
+    )
 }
 
 // Past the blanks from `at` on.
@@ -48,9 +40,8 @@ fn pass_blanks(text: &[u8], at: usize, line: usize) -> Past
     requires line_le_at { line ≤ at }
     ensures { Passes text.now at line result }
 {
-    let mut i = at;
     let mut on = line;
-    while i < text.len() {
+    for i in at..text.len() {
         let character = text[i];
         if !is_blank(character) {
             return Past { at: i, line: on };
@@ -58,9 +49,11 @@ fn pass_blanks(text: &[u8], at: usize, line: usize) -> Past
         if character == lines::LINE_FEED {
             on += 1;
         }
-        i += 1;
     }
-    Past { at: i, line: on }
+    Past {
+        at: text.len(),
+        line: on,
+    }
 }
 
 // Where the token ends that stands at `at`.
@@ -68,33 +61,29 @@ fn word_end(text: &[u8], at: usize) -> usize
     requires { at ≤ length text.now }
     ensures { EndsWord text.now at result }
 {
-    let mut i = at;
-    while i < text.len() {
-        if is_blank(text[i]) {
-            return i;
-        }
-        i += 1;
-    }
-    i
+    let rest = &text[at..];
+    let length = rest
+        .iter()
+        .position(|&character| is_blank(character))
+        .unwrap_or(rest.len());
+    at + length
 }
 
-// The next token from `at` on.
-pub fn next(text: &[u8], at: usize, line: usize) -> Found
+// The next token from `at` on, if one is left.
+pub fn next(text: &[u8], at: usize, line: usize) -> Option<Word>
     requires at_in_bounds { at ≤ length text.now }
     requires line_le_at { line ≤ at }
     ensures { Finds text.now at line result }
 {
     let stand = pass_blanks(text, at, line);
-    let from = stand.at;
-    if from < text.len() {
-        let to = word_end(text, from);
-        return Found::Word {
-            from,
-            to,
-            line: stand.line,
-        };
+    if stand.at == text.len() {
+        return None;
     }
-    Found::End
+    Some(Word {
+        from: stand.at,
+        to: word_end(text, stand.at),
+        line: stand.line,
+    })
 }
 
 // The line of the text's last character.
@@ -102,30 +91,9 @@ pub fn last_line(text: &[u8]) -> usize
     ensures value { result ≡ last_line text.now }
     ensures upper_bound { result ≤ length text.now }
 {
-    let mut feeds = 0;
-    let mut i = 1;
-    while i < text.len() {
-        if text[i - 1] == lines::LINE_FEED {
-            feeds += 1;
-        }
-        i += 1;
-    }
-    feeds
-}
-
-// Whether two words are the same.
-pub fn same(left: &[u8], right: &[u8]) -> bool
-    ensures { result ≡ same_word left.now right.now }
-{
-    if left.len() != right.len() {
-        return false;
-    }
-    let mut i = 0;
-    while i < left.len() {
-        if left[i] != right[i] {
-            return false;
-        }
-        i += 1;
-    }
-    true
+    let before = &text[..text.len().saturating_sub(1)];
+    before
+        .iter()
+        .filter(|&&character| character == lines::LINE_FEED)
+        .count()
 }

@@ -6,7 +6,8 @@ use Rattle.refusals.specs.Refusals.{capture_of}
 use Rattle.entries.specs.Entries.{Placed, laid_from}
 use Rattle.sample.specs.Run.{run_of, part_after}
 use Rattle.transfers.specs.Transfers.{entries_of}
-use Rattle.transfers.specs.declared.Listed.{Listed}
+-- A reply with the state beside it, for a list as for a replay.
+pub use Rattle.power.specs.declared.Replayed.{Replayed as Listed}
 
 -- The verdict of a list: an accepted one counts its entries in place of samples (Refusal numbers, 4 to 7, 9, 10).
 abbrev pub listed_by : Verdict → List Placed → Verdict

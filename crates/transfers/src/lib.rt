@@ -6,17 +6,13 @@ ghost use Rattle.std.specs.Prelude.{◌≡◌, length};
 ghost use Rattle.transfers.specs.Promises.{Walks, Lists};
 
 pub use entries::tags;
-use ground::Reply;
 use part::state::State;
+use power::Replayed;
 use refusals::verdicts;
 use sample::steps;
 
 // Accepted with the count of entries, or refused with number and place; the state beside it.
-#[derive(Clone, Copy)]
-pub struct Listed {
-    pub reply: Reply,
-    pub state: State,
-}
+pub type Listed = Replayed;
 
 // Sample by sample, over rows of one length: what each says goes over `entries`, as far as there is
 // room.
@@ -32,17 +28,13 @@ fn walk(
 {
     let mut now = state;
     let mut count = 0;
-    let mut i = 0;
-    while i < levels.len() {
-        let e = elapsed[i];
-        let level = levels[i];
-        let next = steps::step(now, e, level, array);
-        count = said::put_sample(now, next, e, level, i, entries, count);
+    for (place, (time, level)) in elapsed.iter().zip(levels).enumerate() {
+        let next = steps::step(now, *time, *level, array);
+        count = said::put_sample(now, next, *time, *level, place, entries, count);
         now = next;
-        i += 1;
     }
     Listed {
-        reply: Reply::Accepted(count),
+        reply: Ok(count),
         state: now,
     }
 }
@@ -59,12 +51,11 @@ pub fn list(
 ) -> Listed
     ensures { Lists state elapsed.now levels.now array.old entries.old result array.new entries.new }
 {
-    let reply = verdicts::judge_capture(state, elapsed, levels, array);
-    match reply {
-        Reply::Accepted(_) => walk(state, elapsed, levels, array, entries),
-        Reply::Refused {
-            number: _,
-            place: _,
-        } => Listed { reply, state },
+    match verdicts::judge_capture(state, elapsed, levels, array) {
+        Ok(_) => walk(state, elapsed, levels, array, entries),
+        Err(refusal) => Listed {
+            reply: Err(refusal),
+            state,
+        },
     }
 }

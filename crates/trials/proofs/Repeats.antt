@@ -1,5 +1,5 @@
 -- Laws of replays in a row. Assumes nothing.
-use Prim.Native.Nat.{ℕ, suc, ◌-◌, ◌<◌, ◌≤◌}
+use Prim.Native.Nat.{ℕ, suc, ◌+◌, ◌-◌, ◌<◌, ◌≤◌}
 use mathlib.Core.List.{List}
 use mathlib.Core.Path.{◌≡◌, ap, sym, ◌∙◌}
 use native.Mathlib.Omega.{arith}
@@ -15,14 +15,14 @@ unfolding once_of
 once s es ls array row r array' row' h = rw (h.reply, h.state, h.kept, h.said)
 
 -- One replay of those that are left.
-pub again-turn : (left : ℕ) (es ls : List ℕ) (r next : Round) → 1 < left → next ≡ once_of es ls r.part r.row
-    → again_of (left - 1 - 1) es ls next ≡ again_of (left - 1) es ls r
-again-turn left es ls r next h e =
-    let g : left - 1 ≡ suc (left - 1 - 1) = omega arith in
-    ap (λ (n : Round). again_of (left - 1 - 1) es ls n) e ∙ ap (λ (n : ℕ). again_of n es ls r) (sym g)
+pub again-turn : (times done : ℕ) (es ls : List ℕ) (r next : Round) → done < times → next ≡ once_of es ls r.part r.row
+    → again_of (times - (done + 1)) es ls next ≡ again_of (times - done) es ls r
+again-turn times done es ls r next h e =
+    let g : times - done ≡ suc (times - (done + 1)) = omega arith in
+    ap (λ (n : Round). again_of (times - (done + 1)) es ls n) e ∙ ap (λ (n : ℕ). again_of n es ls r) (sym g)
 
--- None is left where at most one was to come.
-pub again-done : (left : ℕ) (es ls : List ℕ) (r whole : Round) → left ≤ 1 → again_of (left - 1) es ls r ≡ whole → r ≡ whole
-again-done left es ls r whole h e =
-    let g : left - 1 ≡ 0 = omega arith in
+-- None is left where all are done.
+pub again-done : (times done : ℕ) (es ls : List ℕ) (r whole : Round) → times ≤ done → again_of (times - done) es ls r ≡ whole → r ≡ whole
+again-done times done es ls r whole h e =
+    let g : times - done ≡ 0 = omega arith in
     ap (λ (n : ℕ). again_of n es ls r) (sym g) ∙ e

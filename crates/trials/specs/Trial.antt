@@ -1,12 +1,14 @@
 -- One case: power-up, the words put in, and the replays (docs/BENCH.md).
-use Rattle.std.specs.Prelude.{ℕ, min, Bool, true, false, List, ◌≡◌, length, replicate}
+use Rattle.std.specs.Prelude.{ℕ, min, Bool, true, false, List, ◌≡◌, length, replicate, Result, Ok, Err}
+use Rattle.std.specs.Result.{is_ok}
 use Rattle.part.specs.declared.state.State.{State}
 use Rattle.ground.specs.Numbers.{x4323}
-use Rattle.ground.specs.Verdict.{Verdict, accepted, refused}
+use Rattle.ground.specs.Verdict.{Verdict, accepted, refused, meant}
+use Rattle.ground.specs.declared.Refusal.{Refusal}
 use Rattle.refusals.specs.Refusals.{power_of}
 use Rattle.power.specs.Power.{powered_up}
 use Rattle.form.specs.declared.headers.Header.{Header}
-use Rattle.trials.specs.declared.tries.Tried.{Tried}
+use Rattle.power.specs.declared.Replayed.{Replayed}
 use Rattle.form.specs.Header.{state_of}
 use Rattle.trials.specs.Rounds.{Round, round_of, times_of}
 
@@ -36,7 +38,12 @@ tried_by (refused k p) h es ls array row = record { verdict = refused k p; part 
 unfoldable pub tried_of : Header → List ℕ → List ℕ → List ℕ → List ℕ → Round
 tried_of h es ls array row = tried_by (up_of h) h es ls array row
 
+-- What a case says that it left: the last reply with its state, or the refusal of its power-up with the state that comes with one.
+abbrev pub left_of : Result Replayed Refusal → List ℕ → List ℕ → Round
+left_of (Ok last) array row = round_of last array row
+left_of (Err k) array row = record { verdict = meant (Err k); part = record { state = powered_up x4323 0 0; array = array }; row = row }
+
 -- A case over its rows: whether anything was replayed, and what the last replay left.
-pub record Tries (h : Header) (es ls array row : List ℕ) (r : Tried) (array' row' : List ℕ) : Type 0 where
-  pub ran : r.ran ≡ ran_by (up_of h)
-  pub last : round_of r.last array' row' ≡ tried_of h es ls array row
+pub record Tries (h : Header) (es ls array row : List ℕ) (r : Result Replayed Refusal) (array' row' : List ℕ) : Type 0 where
+  pub ran : is_ok r ≡ ran_by (up_of h)
+  pub last : left_of r array' row' ≡ tried_of h es ls array row

@@ -3,16 +3,20 @@ ghost use Rattle.trials.specs.Case.{Answers};
 
 use crate::tries;
 use form::headers::Header;
-use replies::Tail;
 
-// What a reply says beside the answer row and the array: whether those two, the closing bytes and the
-// tail follow the opening ones at all, and the bytes that open, close and end it.
+// What a reply says beside the answer row and the array: the bytes that open it and, where the case ran,
+// so that those two rows follow, the bytes behind them.
 #[derive(Clone, Copy)]
 pub struct Said {
-    pub ran: bool,
     pub opening: [u8; 8],
+    pub rest: Option<Rest>,
+}
+
+// The bytes that close a reply behind its rows, and those that end it, if there are any.
+#[derive(Clone, Copy)]
+pub struct Rest {
     pub closing: [u8; 32],
-    pub tail: Tail,
+    pub tail: Option<[u8; 4]>,
 }
 
 // Powers up and replays as the header says, and puts the reply's words into bytes.
@@ -25,16 +29,17 @@ pub fn answer(
 ) -> Said
     ensures { Answers header elapsed.now levels.now array.old answers.old result array.new answers.new }
 {
-    let tried = tries::run(header, elapsed, levels, array, answers);
-    let last = tried.last;
-    let reply = last.reply;
-    let opening = replies::opening(reply);
-    let closing = replies::closing(last.state);
-    let tail = replies::ending(header.long, last.state);
-    Said {
-        ran: tried.ran,
-        opening,
-        closing,
-        tail,
+    match tries::run(header, elapsed, levels, array, answers) {
+        Ok(last) => Said {
+            opening: replies::opening(last.reply),
+            rest: Some(Rest {
+                closing: replies::closing(last.state),
+                tail: replies::ending(header.long, last.state),
+            }),
+        },
+        Err(refusal) => Said {
+            opening: replies::opening(Err(refusal)),
+            rest: None,
+        },
     }
 }

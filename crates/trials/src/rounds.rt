@@ -17,10 +17,8 @@ pub fn replays(
     ensures { round_of result array.new answers.new ≡ times_of times state elapsed.now levels.now array.old answers.old }
 {
     let mut last = twin::replay(state, elapsed, levels, array, answers);
-    let mut left = times;
-    while left > 1 {
+    for _ in 1..times {
         last = twin::replay(last.state, elapsed, levels, array, answers);
-        left -= 1;
     }
     last
 }

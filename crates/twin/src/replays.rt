@@ -2,7 +2,6 @@
 ghost use Rattle.std.specs.Prelude.{◌≡◌, length};
 ghost use Rattle.twin.specs.Promises.{Runs, Replays};
 
-use ground::Reply;
 use levels::answers;
 use part::state::State;
 use power::Replayed;
@@ -17,6 +16,7 @@ fn run(s: State, elapsed: &[u32], levels: &[u8], array: &mut [u8], row: &mut [u8
 {
     let mut state = s;
     let mut i = 0;
+    // A `while`: `ahead` moves the index by as many samples as it passes.
     while i < levels.len() {
         let stand = plain::ahead(state, elapsed, levels, array, row, i);
         state = stand.state;
@@ -42,14 +42,9 @@ pub fn replay(
     ensures { Replays state elapsed.now levels.now array.old answers.old result array.new answers.new }
 {
     let reply = verdicts::judge(state, elapsed, levels, array, answers);
-    match reply {
-        Reply::Accepted(_) => {
-            let next = run(state, elapsed, levels, array, answers);
-            Replayed { reply, state: next }
-        }
-        Reply::Refused {
-            number: _,
-            place: _,
-        } => Replayed { reply, state },
-    }
+    let state = match reply {
+        Ok(_) => run(state, elapsed, levels, array, answers),
+        Err(_) => state,
+    };
+    Replayed { reply, state }
 }

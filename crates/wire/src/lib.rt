@@ -4,6 +4,7 @@
 ghost use Rattle.std.specs.Prelude.{◌≡◌};
 ghost use Rattle.wire.specs.Sign.{pushed, clean_frame, fall_sign, fall_frame, sign_of, wire_of};
 
+use ground::cases;
 use part::state::{Frame, Lines, Wire};
 
 // What a sample shows on the wire: nothing, a start, a stop with the bits committed when it came, a
@@ -29,11 +30,7 @@ pub struct Seen {
 pub fn push(shift: u8, bit: bool) -> u8
     ensures { result ≡ pushed shift bit }
 {
-    let twice = (shift as u16) * 2 % 256;
-    if bit {
-        return (twice + 1) as u8;
-    }
-    twice as u8
+    shift.wrapping_mul(2) + cases::worth(bit, 1)
 }
 
 // No bit taken, none committed.
@@ -49,74 +46,68 @@ pub fn clean() -> Frame
 }
 
 // What a fall of SCL commits.
+#[tactic(auto, unfolding(crate::specs::Sign::fall_sign))]
 fn fall_sign(f: Frame) -> Sign
     ensures { result ≡ fall_sign f }
 {
-    if f.held {
-        if f.bits < 7 {
-            return Sign::Bit;
-        }
-        if f.bits == 7 {
-            return Sign::Byte(push(f.shift, f.bit));
-        }
-        return Sign::Ninth(f.bit);
+    if !f.held {
+        return Sign::Quiet;
     }
-    Sign::Quiet
+    match f.bits {
+        0..=6 => Sign::Bit,
+        7 => Sign::Byte(push(f.shift, f.bit)),
+        _ => Sign::Ninth(f.bit),
+    }
 }
 
 // The frame after a fall of SCL.
+#[tactic(auto, unfolding(crate::specs::Sign::fall_frame))]
 fn fall_frame(f: Frame) -> Frame
     ensures { result ≡ fall_frame f }
 {
-    if f.held {
-        if f.bits < 8 {
-            return Frame {
-                held: false,
-                bit: false,
-                bits: f.bits + 1,
-                shift: push(f.shift, f.bit),
-            };
-        }
-        return clean();
+    if !f.held {
+        return f;
     }
-    f
+    if f.bits < 8 {
+        return Frame {
+            bits: f.bits + 1,
+            shift: push(f.shift, f.bit),
+            ..clean()
+        };
+    }
+    clean()
 }
 
 // The sign that a sample's SCL and SDA line give, and the wire after it.
+#[tactic(auto, unfolding(crate::specs::Sign::sign_of, crate::specs::Sign::wire_of))]
 pub fn see(w: Wire, scl: bool, sda: bool) -> Seen
     ensures { result ≡ record { sign = sign_of w scl sda; wire = wire_of w scl sda } }
 {
     let lines = Lines { scl, sda };
-    let before = w.lines;
     let frame = w.frame;
-    if before.scl {
-        if scl {
-            if before.sda {
-                if sda {
-                    return quiet(lines, frame);
-                }
-                return cut(Sign::Start, lines);
-            }
-            if sda {
-                return cut(Sign::Stop(frame.bits), lines);
-            }
-            return quiet(lines, frame);
-        }
-        return Seen {
+    match (w.lines.scl, scl) {
+        (true, true) => match (w.lines.sda, sda) {
+            (true, false) => cut(Sign::Start, lines),
+            (false, true) => cut(Sign::Stop(frame.bits), lines),
+            _ => quiet(lines, frame),
+        },
+        (true, false) => Seen {
             sign: fall_sign(frame),
             wire: Wire {
                 lines,
                 frame: fall_frame(frame),
             },
-        };
+        },
+        (false, true) => quiet(
+            lines,
+            Frame {
+                held: true,
+                bit: sda,
+                ..frame
+            },
+        ),
+        (false, false) => quiet(lines, frame),
     }
-    if scl {
-        let mut taken = frame;
-        taken.held = true;
-        taken.bit = sda;
-        return quiet(lines, taken);
-    }
-    quiet(lines, frame)
 }
 
 fn quiet(lines: Lines, frame: Frame) -> Seen

@@ -1,21 +1,26 @@
 -- Laws of wires, of their marks and of times, for the proofs here and for callers. Assumes nothing.
-use Prim.Native.Nat.{ℕ, suc, ◌+◌, ◌*◌, ◌/◌, ◌%◌, ◌≤◌, ◌<◌, min}
+use Prim.Native.Nat.{ℕ, suc, ◌+◌, ◌-◌, ◌*◌, ◌^◌, ◌/◌, ◌%◌, ◌≤◌, ◌<◌, min}
 use mathlib.Core.Bool.{Bool, true, false}
 use mathlib.Core.List.{List, [], ◌∷◌}
-use mathlib.Core.Path.{◌≡◌, refl, sym, ◌∙◌}
-use native.Mathlib.Nat.{min-le_right}
+use mathlib.Core.Path.{◌≡◌, refl, ap, sym, ◌∙◌}
+use mathlib.Core.Logic.{◌⊎◌, inl, inr}
+use native.Mathlib.Nat.{min-le_right, min-eq_left, min-eq_right, one-le-pow, le-mul_of_pos_right}
+use native.Mathlib.Numerals.{add-one}
 use native.Mathlib.Omega.{arith}
-use lib.Dec.{leb}
+use lib.Dec.{leb, ltb}
 use lib.ListN.{length, get_or, drop}
-use borrow.Author.Tests.{leb-true}
+use borrow.Author.Tests.{leb-true, ltb-true, ltb-false, lt-ltb}
+use Rattle.std.specs.Prelude.{Option, None, Some}
+use Rattle.std.specs.Bool.{then_some}
+use Rattle.std.specs.Option.{SomeIff}
 use Rattle.ground.specs.Cases.{odd}
-use Rattle.ground.proofs.Tests.{and_split, not-zero}
+use Rattle.ground.proofs.Tests.{and_split}
 use Rattle.digits.specs.Digits.{within}
 use Rattle.tokens.specs.Tokens.{same_word}
 use Rattle.words.specs.Words.{decimal_base, figure_by, figure_of, all_figures, numeral, figures_value}
-use Rattle.words.proofs.WordLaws.{within_low, digit-figure, digit-fails, digit-holds}
-use Rattle.wires.specs.Wires.{Var, scl_name, sda_name, wp_name, vcc_name, weight_of, bit_by, laid, marked, marks_by, marks_of, has_wire}
-use Rattle.wires.specs.Times.{no_time, time_by, time_of}
+use Rattle.words.proofs.WordLaws.{within_low, digit-figure, digit-fails, digit-holds, digits-end, comes_to, value-start, value-turn, value-end, numeral-some}
+use Rattle.wires.specs.Wires.{Var, weight_of, bit_by, laid, marked, marks_by, marks_of}
+use Rattle.wires.specs.Times.{no_time, time_by, time_of, digit_by, with_digit}
 
 -- A bit is 0 or 1 if the value is.
 pub bit-small : (b : Bool) (value old : ℕ) → value ≤ 1 → bit_by b value old ≤ 1
@@ -43,39 +48,6 @@ marks-by false wire marks h = h
 pub marks-small : (vs : List Var) (code : List ℕ) → marks_of vs code ≤ 31
 marks-small [] code = omega arith
 marks-small (v ∷ vs) code = marks-by (same_word code v.code) (weight_of v.name) (marks_of vs code) (marks-small vs code)
-
--- A name by the first of the four that it is.
-module _ (name : List ℕ) where
-  pub wire-scl : same_word name scl_name ≡ true → 1 ≡ weight_of name
-  unfolding weight_of
-  wire-scl a = rw a
-
-  module _ (a : same_word name scl_name ≡ false) where
-    pub wire-sda : same_word name sda_name ≡ true → 2 ≡ weight_of name
-    unfolding weight_of
-    wire-sda b = rw (a, b)
-
-    module _ (b : same_word name sda_name ≡ false) where
-      pub wire-wp : same_word name wp_name ≡ true → 4 ≡ weight_of name
-      unfolding weight_of
-      wire-wp c = rw (a, b, c)
-
-      pub wire-vcc : same_word name wp_name ≡ false → same_word name vcc_name ≡ true → 8 ≡ weight_of name
-      unfolding weight_of
-      wire-vcc c d = rw (a, b, c, d)
-
-      pub wire-none : same_word name wp_name ≡ false → same_word name vcc_name ≡ false → 0 ≡ weight_of name
-      unfolding weight_of
-      wire-none c d = rw (a, b, c, d)
-
--- Whether a wire is among some, by whether it is wanted.
-pub wire-unwanted : (mask wire : ℕ) → wire ≡ 0 → false ≡ has_wire mask wire
-unfolding has_wire
-wire-unwanted mask wire e = rw e
-
-pub wire-wanted : (mask wire : ℕ) → (wire ≡ 0 → ⊥) → odd (mask / wire) ≡ has_wire mask wire
-unfolding has_wire
-wire-wanted mask wire h = rw (not-zero wire h)
 
 -- A decimal digit lies within two characters; its lower four bits are its value, which is below ten.
 module _ (c : ℕ) where
@@ -131,6 +103,92 @@ module _ (ds : List ℕ) (i : ℕ) {b : Bool} (h : i < length ds) (e : b ≡ wit
     pub time-goes : b ≡ true → all_figures decimal_base (drop (suc i) ds) ≡ numeral decimal_base ds
     time-goes k = digit-holds decimal_base ds i h refl (figure-decimal (get_or ds i 0) (sym e ∙ k)) ∙ left
 
-  pub time-digit : (n : ℕ) {r : ℕ} → b ≡ true → r ≡ min (n * decimal_base + get_or ds i 0 % 16) no_time
-      → r ≡ min (n * decimal_base + figure_of (get_or ds i 0)) no_time
-  time-digit n k f = rw (← figure-low (get_or ds i 0) (sym e ∙ k)) f
+-- A number with a digit behind it is made if it is a time.
+made : (r : Option ℕ) (v : ℕ) → SomeIff r (v < no_time) v → r ≡ then_some (ltb v no_time) v
+made (Some x) v s = rw (lt-ltb v no_time s.0) (ap Some s.1)
+made None v s = by (ltb v no_time) refl
+  where
+    by : (t : Bool) → ltb v no_time ≡ t → None ≡ then_some t v
+    by true f = absurd (s (ltb-true v no_time f))
+    by false f = refl
+
+pub digit-made : (so_far c v : ℕ) (r : Option ℕ) → true ≡ within 0x30 0x39 c → v ≡ so_far * 10 + (c - 0x30)
+    → SomeIff r (v < no_time) v → r ≡ with_digit so_far c
+digit-made so_far c v r w e s = made r v s ∙ rw (← w, e, digit-figure c (sym w))
+
+-- Which digit was behind it.
+module _ (n c : ℕ) where
+  digit-by : (b : Bool) (v x : ℕ) → Some x ≡ digit_by b v → (b ≡ true) × (x ≡ v) × (x < no_time)
+  digit-by true v x e = by (ltb v no_time) refl e
+    where
+      by : (t : Bool) → ltb v no_time ≡ t → Some x ≡ then_some t v → (true ≡ true) × (x ≡ v) × (x < no_time)
+      by true f e = let same : x ≡ v = cc in (refl, same, let k = ltb-true v no_time f in omega arith)
+      by false f e = absurd (let z : ◌≡◌ {A = ℕ} 0 1 = cc in omega arith)
+  digit-by false v x e = absurd (let z : ◌≡◌ {A = ℕ} 0 1 = cc in omega arith)
+
+  pub digit-was : (x : ℕ) → Some x ≡ with_digit n c
+      → (within 0x30 0x39 c ≡ true) × (x ≡ n * decimal_base + figure_of c) × (x < no_time)
+  digit-was x e = digit-by (within 0x30 0x39 c) (n * decimal_base + figure_of c) x e
+
+  none-by : (b : Bool) (v : ℕ) → None ≡ digit_by b v → (b ≡ false) ⊎ ((b ≡ true) × (no_time ≤ v))
+  none-by true v e = by (ltb v no_time) refl e
+    where
+      by : (t : Bool) → ltb v no_time ≡ t → None ≡ then_some t v → (true ≡ false) ⊎ ((true ≡ true) × (no_time ≤ v))
+      by true f e = absurd (let z : ◌≡◌ {A = ℕ} 0 1 = cc in omega arith)
+      by false f e = inr (refl, ltb-false v no_time f)
+  none-by false v e = inl refl
+
+  pub digit-none_was : None ≡ with_digit n c
+      → (within 0x30 0x39 c ≡ false) ⊎ ((within 0x30 0x39 c ≡ true) × (no_time ≤ n * decimal_base + figure_of c))
+  digit-none_was e = none-by (within 0x30 0x39 c) (n * decimal_base + figure_of c) e
+
+-- Digits so far that are no time are none with those that are left.
+module _ (ds : List ℕ) (i : ℕ) (h : i < length ds) (n : ℕ)
+    (come : min (comes_to decimal_base n (drop i ds)) no_time ≡ min (figures_value decimal_base ds) no_time) where
+  over-by : (b : Bool) → min (figures_value decimal_base ds) no_time ≡ no_time → time_by b (figures_value decimal_base ds) ≡ no_time
+  over-by true e = e
+  over-by false e = refl
+
+  pub time-over : no_time ≤ n * decimal_base + figure_of (get_or ds i 0) → time_of ds ≡ no_time
+  unfolding time_of
+  time-over k =
+      let left = drop (suc i) ds in
+      let turn = value-turn decimal_base no_time n i ds h (sym (min-eq_right k)) in
+      let power : 0 < decimal_base ^ length left = one-le-pow (length left) decimal_base (omega arith) in
+      let more : no_time ≤ no_time * decimal_base ^ length left = le-mul_of_pos_right no_time power in
+      let all : no_time ≤ comes_to decimal_base no_time left = omega arith in
+      over-by (numeral decimal_base ds) (sym come ∙ sym turn ∙ min-eq_right all)
+
+-- One turn: the digits so far stay what they come to, and those that are left stay the same digits.
+pub record Counts (ds : List ℕ) (i n : ℕ) : Type 0 where
+  pub small : n < no_time
+  pub come : min (comes_to decimal_base n (drop i ds)) no_time ≡ min (figures_value decimal_base ds) no_time
+  pub left : all_figures decimal_base (drop i ds) ≡ numeral decimal_base ds
+
+pub counts-start : (ds : List ℕ) → (length ds ≡ 0 → ⊥) → Counts ds 0 0
+counts-start ds h = record { small = omega arith; come = value-start decimal_base no_time ds; left = numeral-some decimal_base ds h }
+
+module _ (ds : List ℕ) (i n : ℕ) (h : i < length ds) (k : Counts ds i n) where
+  pub counts-turn : (x : ℕ) → Some x ≡ with_digit n (get_or ds i 0) → Counts ds (i + 1) x
+  counts-turn x e =
+      let w = digit-was n (get_or ds i 0) x e in
+      record {
+        small = w.2;
+        come =
+            rw (add-one i)
+            (value-turn decimal_base no_time n i ds h (w.1 ∙ sym (min-eq_left (omega (arith, w.1, w.2)))) ∙ k.come);
+        left = rw (add-one i) (time-goes ds i h (sym w.0) k.left refl);
+      }
+
+  pub counts-none : None ≡ with_digit n (get_or ds i 0) → time_of ds ≡ no_time
+  counts-none e =
+      elim (digit-none_was n (get_or ds i 0) e) [
+        | inl f ↦ sym (time-other ds i h (sym f) k.left refl)
+        | inr f ↦ time-over ds i h n k.come f.1
+      ]
+
+pub counts-end : (ds : List ℕ) (n i : ℕ) → length ds ≤ i → Counts ds i n → (n ≡ time_of ds) × (n < no_time)
+counts-end ds n i h k =
+    let small = k.small in
+    let whole = value-end decimal_base no_time n i ds h (omega arith) k.come in
+    (time-whole ds (sym (digits-end decimal_base ds i h ∙ k.left)) whole, small)

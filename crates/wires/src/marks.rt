@@ -2,38 +2,35 @@
 ghost use Rattle.std.specs.Prelude.{◌≡◌, ◌≤◌};
 ghost use Rattle.wires.specs.Wires.{weight_of, laid, marked, has_wire};
 
-use tokens::same;
-
 pub const ALL: u8 = 15;
 
 pub const DECLARED: u8 = 16;
 
-const SCL: u8 = 1;
+const SCL: &[u8] = b"SCL";
 
-const SDA: u8 = 2;
+const SDA: &[u8] = b"SDA";
 
-const WP: u8 = 4;
+const WP: &[u8] = b"WP";
 
-const VCC: u8 = 8;
+const VCC: &[u8] = b"VCC";
 
-// The mark of the wanted wire that has a name; 0 where none has it.
+// The mark of the wanted wire that has a name. Marks are a set of bits, so that of any other wire is the empty set, and no None.
+#[tactic(auto, unfolding(crate::specs::Wires::weight_of))]
 pub fn wire_of(name: &[u8]) -> u8
     ensures value { result ≡ weight_of name.now }
     ensures upper_bound { result ≤ 8 }
 {
-    if same(name, b"SCL") {
-        return SCL;
+    if name == SCL {
+        1
+    } else if name == SDA {
+        2
+    } else if name == WP {
+        4
+    } else if name == VCC {
+        8
+    } else {
+        0
     }
-    if same(name, b"SDA") {
-        return SDA;
-    }
-    if same(name, b"WP") {
-        return WP;
-    }
-    if same(name, b"VCC") {
-        return VCC;
-    }
-    0
 }
 
 // A level byte with a value, 0 or 1, laid over the bits that the marks name.
@@ -58,11 +55,9 @@ pub fn mark(marks: u8, wire: u8) -> u8
 }
 
 // Whether a wire is wanted and is among those of a mask.
+#[tactic(auto, unfolding(crate::specs::Wires::has_wire))]
 pub fn has_wire(mask: u8, wire: u8) -> bool
     ensures { result ≡ has_wire mask wire }
 {
-    if wire == 0 {
-        return false;
-    }
-    mask / wire % 2 == 1
+    wire > 0 && mask / wire % 2 == 1
 }

@@ -17,7 +17,8 @@ use Rattle.page.specs.Page.{page_of}
 use Rattle.lock.specs.Lock.{block_code, extent_of, locked_of, upper_by}
 use Rattle.lock.specs.declared.Extent.{Extent}
 use Rattle.withheld.specs.Withheld.{data_reason_by, data_reason, register_reason_by, reason_in, reason_of}
-use Rattle.withheld.specs.declared.Why.TheVariants.{NotWithheld, PageLocked}
+use Rattle.std.specs.Prelude.{Some}
+use Rattle.withheld.specs.declared.Why.TheVariants.{PageLocked}
 
 -- A page of an extent, between its first and its last.
 pub record Inside (x : Extent) (page : ℕ) : Type 0 where
@@ -53,9 +54,9 @@ last-page x page w = go x.from x.to page w.high
 
 module _ (k : Kind) (d : Device) (code first last : ℕ) where
   data-tells : (wel locked : Bool) → locked_of k d.control.stored d.counter ≡ locked
-      → data_reason_by wel locked (block_code d.control.stored) (extent_of k (block_code d.control.stored)) ≡ PageLocked code first last → TellsLock k d code first last
-  data-tells false locked h e = absurd (let z : ◌≡◌ {A = ℕ} 0 1 = cc in omega arith)
-  data-tells true false h e = absurd (let z : ◌≡◌ {A = ℕ} 0 1 = cc in omega arith)
+      → data_reason_by wel locked (block_code d.control.stored) (extent_of k (block_code d.control.stored)) ≡ Some (PageLocked code first last) → TellsLock k d code first last
+  data-tells false locked h e = cc
+  data-tells true false h e = cc
   data-tells true true h e =
       let x = extent_of k (block_code d.control.stored) in
       let w = locked-within k d.control.stored d.counter h in
@@ -64,27 +65,24 @@ module _ (k : Kind) (d : Device) (code first last : ℕ) where
       let b : x.to - 1 ≡ last = cc in
       record { stored = c; extent = rw (c, ← a, ← b) (last-page x (page_of d.counter) w); low = omega (arith, w.low, a); high = omega (arith, w.high, b) }
 
-  none_told : NotWithheld ≡ PageLocked code first last → TellsLock k d code first last
-  none_told e = absurd (let z : ◌≡◌ {A = ℕ} 0 1 = cc in omega arith)
+  register-tells : (pending : Bool) → register_reason_by pending ≡ Some (PageLocked code first last) → TellsLock k d code first last
+  register-tells true e = cc
+  register-tells false e = cc
 
-  register-tells : (pending : Bool) → register_reason_by pending ≡ PageLocked code first last → TellsLock k d code first last
-  register-tells true e = absurd (let z : ◌≡◌ {A = ℕ} 0 1 = cc in omega arith)
-  register-tells false e = none_told e
-
-  phase-tells : (p : Phase) → reason_in p k d ≡ PageLocked code first last → TellsLock k d code first last
+  phase-tells : (p : Phase) → reason_in p k d ≡ Some (PageLocked code first last) → TellsLock k d code first last
   unfolding data_reason
-  phase-tells Idle e = none_told e
-  phase-tells Silent e = none_told e
-  phase-tells Slave e = none_told e
-  phase-tells High e = none_told e
-  phase-tells Low e = none_told e
+  phase-tells Idle e = cc
+  phase-tells Silent e = cc
+  phase-tells Slave e = cc
+  phase-tells High e = cc
+  phase-tells Low e = cc
   phase-tells Data e = data-tells d.control.wel (locked_of k d.control.stored d.counter) refl e
   phase-tells Register e = register-tells d.control.pending e
-  phase-tells Send e = none_told e
-  phase-tells SendRegister e = none_told e
+  phase-tells Send e = cc
+  phase-tells SendRegister e = cc
 
   -- A locked page is told with the stored code and just the pages that it locks, the counter's among them, for every kind of part.
-  pub lock-tells : reason_of k d ≡ PageLocked code first last → TellsLock k d code first last
+  pub lock-tells : reason_of k d ≡ Some (PageLocked code first last) → TellsLock k d code first last
   unfolding reason_of
   lock-tells e = phase-tells d.talk.phase e
 
@@ -111,7 +109,7 @@ pub record Narrow (code first last : ℕ) : Type 0 where
   pub begins : first < byte_values
   pub ends : last < byte_values
 
-pub narrow-told : (k : Kind) (d : Device) (code first last : ℕ) → Paged k → reason_of k d ≡ PageLocked code first last → Narrow code first last
+pub narrow-told : (k : Kind) (d : Device) (code first last : ℕ) → Paged k → reason_of k d ≡ Some (PageLocked code first last) → Narrow code first last
 narrow-told k d code first last paged e =
     let t = lock-tells k d code first last e in
     let h : k.size / page_size ≤ byte_values = omega (arith, paged.most) in

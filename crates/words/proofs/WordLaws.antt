@@ -5,39 +5,24 @@ use mathlib.Core.List.{List, [], ◌∷◌}
 use mathlib.Core.Path.{◌≡◌, refl, ap, sym, ◌∙◌}
 use native.Mathlib.Omega.{arith}
 use native.Mathlib.Nat.{add-zero, zero-add, mul-zero, zero-mul, mul-one, add-mul, mul_assoc, mul_comm, pow-zero, pow-suc, le-mul_of_pos_right, min-eq_left, min-eq_right, min-le_right}
-use lib.Dec.{leb}
-use lib.ListN.{length, get_or, take, drop, length-drop, drop_of_length-le}
-use lib.Seq.{drop-cons, drop-length, take_all}
+use Rattle.std.specs.List.{fold, list_all}
+use lib.Dec.{leb, ltb}
+use lib.ListN.{length, get_or, take, drop, drop_of_length-le}
+use lib.Seq.{drop-cons, take_all}
 use borrow.Author.Tests.{leb-true, leb-false, lt-ltb, le-ltb, eq-eqb, ne_eqb}
 use Rattle.ground.proofs.Tests.{and_split}
 use Rattle.digits.specs.Digits.{base, within}
 use Rattle.words.specs.Words.{decimal_base, figure_of, all_figures, numeral, figures_value, after_mark, is_number, counts_by, counts_as}
-use Rattle.words.specs.Marks.{MarkEnds}
 
 -- A character within two others is not below the first.
 pub within_low : (low high c : ℕ) → within low high c ≡ true → low ≤ c
 within_low low high c e = leb-true low c (and_split (leb low c) (leb c high) e).0
-
-within-high : (low high c : ℕ) → within low high c ≡ true → c ≤ high
-within-high low high c e = leb-true c high (and_split (leb low c) (leb c high) e).1
 
 -- A character by where it lies.
 module _ (c : ℕ) where
   pub digit-figure : within 0x30 0x39 c ≡ true → c - 0x30 ≡ figure_of c
   unfolding figure_of
   digit-figure e = rw e
-
-  pub digit-upper : within 0x30 0x39 c ≡ false → within 0x41 0x46 c ≡ true → c - 0x41 + 10 ≡ figure_of c
-  unfolding figure_of
-  digit-upper e f = rw (e, f)
-
-  pub digit-lower : within 0x30 0x39 c ≡ false → within 0x41 0x46 c ≡ false → within 0x61 0x66 c ≡ true → c - 0x61 + 10 ≡ figure_of c
-  unfolding figure_of
-  digit-lower e f g = rw (e, f, g)
-
-  pub digit-none : within 0x30 0x39 c ≡ false → within 0x41 0x46 c ≡ false → within 0x61 0x66 c ≡ false → 16 ≡ figure_of c
-  unfolding figure_of
-  digit-none e f g = rw (e, f, g)
 
 -- A number that is cut to the largest value before it is counted on is that of the whole cut at the end.
 pub cut-once : (n power rest most : ℕ) → min (min n most * power + rest) most ≡ min (n * power + rest) most
@@ -83,6 +68,19 @@ value-end radix most n i ds h k e =
     let f : min (comes_to radix n []) most ≡ min n most = rw (one, mul-one n, add-zero n) in
     sym (min-eq_left k) ∙ (sym f ∙ (rw (drop_of_length-le ds h) at e))
 
+-- Digits that join a number one after another, which is cut each time.
+fold_value : (radix most : ℕ) (ds : List ℕ) (n : ℕ) → n ≤ most
+    → fold (λ so_far c. min (so_far * radix + figure_of c) most) n ds ≡ min (comes_to radix n ds) most
+fold_value radix most [] n h = value-end radix most n 0 [] (omega arith) h refl
+fold_value radix most (c ∷ cs) n h =
+    let r = min (n * radix + figure_of c) most in
+    fold_value radix most cs r (min-le_right (n * radix + figure_of c) most)
+    ∙ value-turn radix most n 0 (c ∷ cs) (omega arith) refl
+
+pub value_found : (r radix most : ℕ) (ds : List ℕ) → r ≡ fold (λ so_far c. min (so_far * radix + figure_of c) most) 0 ds
+    → r ≡ min (figures_value radix ds) most
+value_found r radix most ds e = e ∙ (fold_value radix most ds 0 (omega arith) ∙ value-start radix most ds)
+
 -- Characters are a number if there is one, and those that are left are digits.
 pub numeral-none : (radix : ℕ) (cs : List ℕ) → length cs ≡ 0 → false ≡ numeral radix cs
 unfolding numeral
@@ -93,6 +91,14 @@ pub numeral-some : (radix : ℕ) (cs : List ℕ) → (length cs ≡ 0 → ⊥) �
 unfolding numeral
 numeral-some radix [] h = absurd (h refl)
 numeral-some radix (c ∷ cs) h = refl
+
+all_figures-list : (radix : ℕ) (cs : List ℕ) → list_all (λ c. ltb (figure_of c) radix) cs ≡ all_figures radix cs
+all_figures-list radix [] = refl
+all_figures-list radix (c ∷ cs) = rw (all_figures-list radix cs)
+
+pub numeral_found : (r : Bool) (radix : ℕ) (cs : List ℕ) → (length cs ≡ 0 → ⊥) → r ≡ list_all (λ c. ltb (figure_of c) radix) cs
+    → r ≡ numeral radix cs
+numeral_found r radix cs h e = e ∙ (all_figures-list radix cs ∙ numeral-some radix cs h)
 
 module _ (radix : ℕ) (cs : List ℕ) (i : ℕ) where
   pub digits-end : length cs ≤ i → true ≡ all_figures radix (drop i cs)
@@ -106,11 +112,13 @@ module _ (radix : ℕ) (cs : List ℕ) (i : ℕ) where
     digit-holds k = rw (drop-cons cs i 0 h, ← e, lt-ltb d radix k)
 
 -- A word with the mark, and one without.
-pub mark-found : (word : List ℕ) → 2 ≤ length word → get_or word 0 0 ≡ 0x30 → get_or word 1 0 ≡ 0x78 → MarkEnds word 2
+pub mark_found : (word : List ℕ) → 2 ≤ length word → get_or word 0 0 ≡ 0x30 → get_or word 1 0 ≡ 0x78
+    → take (length word - 2) (drop 2 word) ≡ after_mark word
 unfolding after_mark
-mark-found [] h e f = absurd (omega arith)
-mark-found (a ∷ []) h e f = absurd (omega arith)
-mark-found (a ∷ b ∷ cs) h e f = record { inside = h; rest = rw (eq-eqb a 0x30 e, eq-eqb b 0x78 f) }
+mark_found [] h e f = absurd (omega arith)
+mark_found (a ∷ []) h e f = absurd (omega arith)
+mark_found (a ∷ b ∷ cs) h e f =
+    rw (eq-eqb a 0x30 e, eq-eqb b 0x78 f) (take_all (length (a ∷ b ∷ cs) - 2) cs (omega arith))
 
 pub mark-short : (word : List ℕ) → length word < 2 → after_mark word ≡ []
 unfolding after_mark
@@ -130,10 +138,7 @@ mark-second [] h e n = absurd (omega arith)
 mark-second (a ∷ []) h e n = absurd (omega arith)
 mark-second (a ∷ b ∷ cs) h e n = rw (eq-eqb a 0x30 e, ne_eqb b 0x78 n)
 
-pub mark-none : (word : List ℕ) → after_mark word ≡ [] → MarkEnds word (length word)
-mark-none word e = record { inside = omega arith; rest = drop-length word ∙ sym e }
-
--- A word by what the tests of its characters say, the hexadecimal digits being its part from a place on.
+-- A word by what the tests of its characters say, the hexadecimal digits being what follows its mark.
 module _ (word : List ℕ) where
   pub decimal-is : numeral decimal_base word ≡ true → true ≡ is_number word
   unfolding is_number
@@ -143,22 +148,18 @@ module _ (word : List ℕ) where
   unfolding counts_as
   number-decimal most e f = rw (f, e)
 
-  module _ (from : ℕ) (begins : MarkEnds word from) (e : numeral decimal_base word ≡ false) where
-    mark-part : take (length word - from) (drop from word) ≡ after_mark word
-    mark-part = take_all (length word - from) (drop from word) (simp length-drop (omega arith)) ∙ begins.rest
-
-    pub marked-is : {r : Bool} → r ≡ numeral base (take (length word - from) (drop from word)) → r ≡ is_number word
+  module _ {marked : List ℕ} (begins : marked ≡ after_mark word) (e : numeral decimal_base word ≡ false) where
+    pub marked-is : {r : Bool} → r ≡ numeral base marked → r ≡ is_number word
     unfolding is_number
-    marked-is f = rw e (rw mark-part at f)
+    marked-is f = rw e (rw begins at f)
 
-    pub number-marked : (most : ℕ) {r : ℕ} → numeral base (take (length word - from) (drop from word)) ≡ true
-        → r ≡ min (figures_value base (take (length word - from) (drop from word))) most → r ≡ counts_as most word
+    pub number-marked : (most : ℕ) {r : ℕ} → numeral base marked ≡ true → r ≡ min (figures_value base marked) most → r ≡ counts_as most word
     unfolding counts_as
-    number-marked most f g = rw (e, rw mark-part at f) (rw mark-part at g)
+    number-marked most f g = rw (e, rw begins at f) (rw begins at g)
 
-    pub number-neither : (most : ℕ) → numeral base (take (length word - from) (drop from word)) ≡ false → most ≡ counts_as most word
+    pub number-neither : (most : ℕ) → numeral base marked ≡ false → most ≡ counts_as most word
     unfolding counts_as
-    number-neither most f = rw (e, rw mark-part at f)
+    number-neither most f = rw (e, rw begins at f)
 
 -- No word counts more than the field's largest value.
 most-by : (decimal hexadecimal : Bool) (most : ℕ) (word : List ℕ) → counts_by decimal hexadecimal most word ≤ most
@@ -166,6 +167,6 @@ most-by true hexadecimal most word = min-le_right (figures_value decimal_base wo
 most-by false true most word = min-le_right (figures_value base (after_mark word)) most
 most-by false false most word = omega arith
 
-pub number-within : (most : ℕ) (word : List ℕ) {r : ℕ} → r ≡ counts_as most word → r ≤ most
+pub number_within : (most : ℕ) (word : List ℕ) {r : ℕ} → r ≡ counts_as most word → r ≤ most
 unfolding counts_as
-number-within most word e = rw e (most-by (numeral decimal_base word) (numeral base (after_mark word)) most word)
+number_within most word e = rw e (most-by (numeral decimal_base word) (numeral base (after_mark word)) most word)

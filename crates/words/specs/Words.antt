@@ -1,6 +1,7 @@
 -- The words of a command line as numbers (request 2026-01, programs take it as an argument). How they are read is the row "2026-01,
 -- arguments" of docs/DECISIONS.md.
-use Rattle.std.specs.Prelude.{ℕ, ◌+◌, ◌*◌, ◌-◌, ◌^◌, min, Bool, true, false, ◌&&◌, ◌||◌, List, [], ◌∷◌, ltb, eqb, length}
+use Rattle.std.specs.Prelude.{ℕ, ◌+◌, ◌*◌, ◌-◌, ◌^◌, min, Bool, true, false, ◌&&◌, ◌||◌, Option, Some, None, List, [], ◌∷◌, ltb, eqb, length}
+use denote.Ref.{Bor}
 use Rattle.ground.specs.Numbers.{x4323}
 use Rattle.digits.specs.Digits.{base, within}
 
@@ -76,3 +77,12 @@ widest_byte = 255
 abbrev pub byte_named : Bool → List ℕ → ℕ
 byte_named false word = 0
 byte_named true word = counts_as widest_byte word
+
+-- The same of a word that may be there or not (requests 2026-01 and 2026-03, programs take it as an argument).
+abbrev pub part_given : Option (Bor (List ℕ)) → ℕ
+part_given None = part_named false []
+part_given (Some word) = part_named true word.now
+
+abbrev pub byte_given : Option (Bor (List ℕ)) → ℕ
+byte_given None = byte_named false []
+byte_given (Some word) = byte_named true word.now

@@ -2,139 +2,101 @@
 #![tactic(auto)]
 
 ghost use Rattle.std.specs.Prelude.{◌≡◌, ◌+◌, ◌*◌, min};
-ghost use Rattle.words.specs.Words.{part_named, byte_named, figure_of, numeral, figures_value, is_number, counts_as};
-ghost use Rattle.words.specs.Marks.{MarkEnds};
+ghost use Rattle.words.specs.Words.{part_given, byte_given, figure_of, numeral, figures_value, is_number, counts_as, after_mark};
 
 use ground::kinds;
 
 const TEN: u8 = 10;
 
-const WIDEST_PART: u32 = 65_535;
-
-const WIDEST_BYTE: u32 = 255;
-
 // The part where no word names one.
 pub const LEFT_OUT: u16 = kinds::X4323;
 
-// The value of a character as a digit.
+// The value of a character as a digit; of one that is no digit the base, which no digit reaches, so that one comparison tells.
+#[tactic(auto, unfolding(crate::specs::Words::figure_of))]
 fn digit(character: u8) -> u8
     ensures { result ≡ figure_of character }
 {
-    if digits::within(0x30, 0x39, character) {
-        return character - 0x30;
+    match character {
+        b'0'..=b'9' => character - b'0',
+        b'A'..=b'F' => character - b'A' + TEN,
+        b'a'..=b'f' => character - b'a' + TEN,
+        _ => digits::BASE,
     }
-    if digits::within(0x41, 0x46, character) {
-        return character - 0x41 + TEN;
-    }
-    if digits::within(0x61, 0x66, character) {
-        return character - 0x61 + TEN;
-    }
-    digits::BASE
 }
 
 // Whether characters are a number in a base.
 fn is_numeral(base: u8, characters: &[u8]) -> bool
     ensures { result ≡ numeral base characters.now }
 {
-    if characters.len() == 0 {
-        return false;
-    }
-    let mut i = 0;
-    while i < characters.len() {
-        if digit(characters[i]) >= base {
-            return false;
-        }
-        i += 1;
-    }
-    true
-}
-
-fn lesser(value: u64, most: u32) -> u32
-    ensures { result ≡ min value most }
-{
-    if value > most as u64 {
-        return most;
-    }
-    value as u32
+    !characters.is_empty() && characters.iter().all(|&c| digit(c) < base)
 }
 
 // A number with one digit more, as far as it is not too wide.
 fn with_digit(value: u32, base: u8, character: u8, most: u32) -> u32
     ensures { result ≡ min (value * base + figure_of character) most }
 {
-    lesser(value as u64 * base as u64 + digit(character) as u64, most)
+    let wide = u64::from(value) * u64::from(base) + u64::from(digit(character));
+    wide.min(u64::from(most)) as u32
 }
 
 // The value of a number's digits, or `most` where that is less.
 fn value(base: u8, digits: &[u8], most: u32) -> u32
     ensures { result ≡ min (figures_value base digits.now) most }
 {
-    let mut so_far = 0;
-    let mut i = 0;
-    while i < digits.len() {
-        so_far = with_digit(so_far, base, digits[i], most);
-        i += 1;
-    }
-    so_far
+    digits
+        .iter()
+        .fold(0, |so_far, &c| with_digit(so_far, base, c, most))
 }
 
-// Where the digits of a hexadecimal word begin; its end where it has no mark.
-fn after_mark(word: &[u8]) -> usize
-    ensures { MarkEnds word.now result }
+// The digits of a hexadecimal word; none where it has no mark.
+fn after_mark(word: &[u8]) -> &[u8]
+    ensures { result.now ≡ after_mark word.now }
 {
-    if word.len() < 2 {
-        return word.len();
+    match word {
+        [b'0', b'x', digits @ ..] => digits,
+        _ => &[],
     }
-    if word[0] != 0x30 {
-        return word.len();
-    }
-    if word[1] != 0x78 {
-        return word.len();
-    }
-    2
 }
 
 // Whether a word is a number.
 pub fn is_number(word: &[u8]) -> bool
     ensures { result ≡ is_number word.now }
 {
-    if is_numeral(TEN, word) {
-        return true;
-    }
-    let from = after_mark(word);
-    is_numeral(digits::BASE, &word[from..])
+    is_numeral(TEN, word) || is_numeral(digits::BASE, after_mark(word))
 }
 
 // What a word counts in a field whose largest value is `most`: its value, or `most` where it is no number or too wide.
 pub fn number_of(word: &[u8], most: u32) -> u32
     ensures { result ≡ counts_as most word.now }
 {
+    let marked = after_mark(word);
     if is_numeral(TEN, word) {
-        return value(TEN, word, most);
+        value(TEN, word, most)
+    } else if is_numeral(digits::BASE, marked) {
+        value(digits::BASE, marked, most)
+    } else {
+        most
     }
-    let from = after_mark(word);
-    if is_numeral(digits::BASE, &word[from..]) {
-        return value(digits::BASE, &word[from..], most);
-    }
-    most
 }
 
-// The part that a program's word names, if there is a word.
-pub fn part_named(given: bool, word: &[u8]) -> u16
-    ensures { result ≡ part_named given word.now }
+// The part that a program's word names, or the usual one where there is no word.
+#[tactic(auto, using(crate::proofs::WordLaws::number_within))]
+pub fn part_given(word: Option<&[u8]>) -> u16
+    ensures { result ≡ part_given word.entry }
 {
-    if given {
-        return number_of(word, WIDEST_PART) as u16;
+    match word {
+        Some(word) => number_of(word, u32::from(u16::MAX)) as u16,
+        None => LEFT_OUT,
     }
-    LEFT_OUT
 }
 
-// The select or the stored byte that a program's word gives, if there is a word.
-pub fn byte_named(given: bool, word: &[u8]) -> u8
-    ensures { result ≡ byte_named given word.now }
+// The select or the stored byte that a program's word gives, or 0 where there is no word.
+#[tactic(auto, using(crate::proofs::WordLaws::number_within))]
+pub fn byte_given(word: Option<&[u8]>) -> u8
+    ensures { result ≡ byte_given word.entry }
 {
-    if given {
-        return number_of(word, WIDEST_BYTE) as u8;
+    match word {
+        Some(word) => number_of(word, u32::from(u8::MAX)) as u8,
+        None => 0,
     }
-    0
 }

@@ -2,8 +2,5 @@
 use Rattle.at_once.proofs.Reporting.{report-left}
 use Rattle.at_once.proofs.report.Goals as goal
 
-pub returns-then-tried : goal.returns-then-tried
-returns-then-tried c = c.by_length-tried.ensures.reports c.if-tried.true
-
-pub returns : goal.returns
-returns c = report-left _ _ _ _ _ _ _ _ _ c.by_length-tried.ensures c.if-tried.false _ _ _ c.report.ensures
+pub returns-in-None : goal.returns-in-None
+returns-in-None c = report-left _ _ _ _ _ _ _ _ c.in-None.ensures _ _ _ c.report.ensures

@@ -18,7 +18,7 @@ loop-i-preserved c =
       simp length-set at.invariant.1,
       at.invariant.2,
       rw add-one (fresh-turn at.cells bytes at.i _ at.fresh (omega arith) (omega arith) ∙ at.invariant.3),
-      rw add-one (give-turn at.cells bytes at.i _ (omega arith) (omega arith) c.wide.ensures ∙ at.invariant.4),
+      rw add-one (give-turn at.cells bytes at.i _ (omega arith) (omega arith) c.from.ensures ∙ at.invariant.4),
     )
 
 pub shape_of-cells : goal.shape_of-cells

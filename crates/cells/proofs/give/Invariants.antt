@@ -1,6 +1,6 @@
 -- `cells::give` meets its contract: what is tested and given so far, and what is left, is the whole.
 use mathlib.Core.Bool.{◌&&◌}
-use Prim.Native.Nat.{◌≤◌, ◌-◌}
+use Prim.Native.Nat.{◌≤◌}
 use mathlib.Core.Path.{◌≡◌}
 use mathlib.Core.List.{◌++◌}
 use lib.ListN.{length, take, drop}
@@ -14,6 +14,3 @@ invariant-loop-i l =
     × (length l.bytes ≤ length l.initial.cells)
     × ((l.fresh && fresh_of (drop l.i l.cells) (drop l.i l.bytes)) ≡ fresh_of l.initial.cells l.bytes)
     × (take l.i l.cells ++ give_of (drop l.i l.cells) (drop l.i l.bytes) ≡ give_of l.initial.cells l.bytes)
-
-abbrev pub decreases-loop-i : goal.decreases-loop-i
-decreases-loop-i l = length l.bytes - l.i

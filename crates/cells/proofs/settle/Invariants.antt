@@ -1,5 +1,5 @@
 -- `cells::settle` meets its contract: what is settled so far, and what the cells left settle to, is the whole.
-use Prim.Native.Nat.{◌≤◌, ◌-◌}
+use Prim.Native.Nat.{◌≤◌}
 use mathlib.Core.Path.{◌≡◌}
 use mathlib.Core.List.{◌++◌}
 use lib.ListN.{length, take, drop}
@@ -12,6 +12,3 @@ invariant-loop-i l =
     × (length l.array ≡ length l.initial.array)
     × (length l.initial.array ≡ length l.cells)
     × (take l.i l.array ++ settled_of (drop l.i l.cells) ≡ settled_of l.cells)
-
-abbrev pub decreases-loop-i : goal.decreases-loop-i
-decreases-loop-i l = length l.cells - l.i

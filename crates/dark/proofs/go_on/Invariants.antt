@@ -1,5 +1,4 @@
 -- `dark::go_on` meets its contract: before each sample a dark part stands where the samples so far have brought it.
-use Prim.Native.Nat.{◌-◌}
 use mathlib.Core.Path.{◌≡◌}
 use lib.ListN.{length}
 use Rattle.dark.specs.Dark.{Dims}
@@ -9,7 +8,4 @@ abbrev pub invariant-loop-i : goal.invariant-loop-i
 invariant-loop-i l =
     (length l.elapsed ≡ length l.levels)
     × (length l.initial.row ≡ length l.levels)
-    × Dims l.high l.elapsed l.levels (record { write = l.initial.write; lines = l.initial.lines; at = l.initial.i }) l.initial.row (record { write = l.write; lines = l.lines; at = l.i }) l.row
-
-abbrev pub decreases-loop-i : goal.decreases-loop-i
-decreases-loop-i l = length l.levels - l.i
+    × Dims l.high l.elapsed l.levels l.fn.first l.initial.row (record { write = l.write; lines = l.lines; at = l.i }) l.row

@@ -1,7 +1,7 @@
 -- One part through the rows, beside itself: while a byte fetched within them is being sent, the part gives on SDA the bit
 -- of it that is out. Assumes nothing.
 use Prim.Native.Nat.{ℕ}
-use mathlib.Core.Bool.{Bool, true, false, true≢false, ◌&&◌, beq}
+use mathlib.Core.Bool.{Bool, true, false, true≢false, beq, and-false}
 use mathlib.Core.List.{List, [], ◌∷◌}
 use mathlib.Core.Path.{◌≡◌, refl, sym}
 use borrow.Author.Tests.{eq-eqb}
@@ -15,11 +15,6 @@ use Rattle.demand3.proofs.Sent.Reached.{beside-step}
 same_self : (b : Bool) → beq b b ≡ true
 same_self true = refl
 same_self false = refl
-
--- A test that cannot hold, beside another.
-and-false : (b : Bool) → (b && false) ≡ false
-and-false true = refl
-and-false false = refl
 
 -- What is being sent is unequal to itself in no bit.
 reach-self : (a : ℕ) (g : Sent) → reaches a g g ≡ false

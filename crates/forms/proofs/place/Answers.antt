@@ -1,27 +1,30 @@
 -- `forms::place` meets its contract.
 use Prim.Native.Nat.{◌+◌, ◌≤◌}
+use mathlib.Core.Path.{◌≡◌, ◌∙◌, sym}
 use native.Mathlib.Omega.{arith}
+use borrow.Author.Tests.{eqb-true, eqb-false}
 use lib.ListN.{length}
 use Rattle.forms.proofs.Placed.{place_none, place-beyond, place_twice, place-given}
 use Rattle.forms.proofs.place.Goals as goal
 
-pub returns-then-bytes-eq0 : goal.returns-then-bytes-eq0
-returns-then-bytes-eq0 c = place_none _ _ _ c.if-bytes-eq0.true
+pub returns-then-is_empty : goal.returns-then-is_empty
+returns-then-is_empty c = place_none _ _ _ (eqb-true _ 0 (sym c.is_empty.ensures ∙ c.if-is_empty.true))
 
-pub returns-then-address-cells : goal.returns-then-address-cells
-returns-then-address-cells c = place-beyond _ _ _ c.if-bytes-eq0.false (omega arith)
-
-pub returns-then-bytes-cells : goal.returns-then-bytes-cells
-returns-then-bytes-cells c = place-beyond _ _ _ c.if-bytes-eq0.false (omega arith)
+pub returns-then-bytes-saturating_sub : goal.returns-then-bytes-saturating_sub
+returns-then-bytes-saturating_sub c =
+    let some : length c.args.bytes.now ≡ 0 → ⊥ = eqb-false _ 0 (sym c.is_empty.ensures ∙ c.if-is_empty.false) in
+    place-beyond _ _ _ some (omega (arith, c.saturating_sub.ensures))
 
 pub returns-then-give : goal.returns-then-give
 returns-then-give c =
     let a = c.args in
-    let h : a.address + length a.bytes.now ≤ length a.cells.now = omega arith in
-    place-given a.address a.bytes.now a.cells.now _ c.if-bytes-eq0.false h c.give.ensures c.if-give.true
+    let some : length a.bytes.now ≡ 0 → ⊥ = eqb-false _ 0 (sym c.is_empty.ensures ∙ c.if-is_empty.false) in
+    let fits : a.address + length a.bytes.now ≤ length a.cells.now = omega (arith, c.saturating_sub.ensures) in
+    place-given a.address a.bytes.now a.cells.now _ some fits c.give.ensures c.if-give.true
 
-pub returns : goal.returns
-returns c =
+pub returns-else-give : goal.returns-else-give
+returns-else-give c =
     let a = c.args in
-    let h : a.address + length a.bytes.now ≤ length a.cells.now = omega arith in
-    place_twice a.address a.bytes.now a.cells.now _ _ c.if-bytes-eq0.false h c.give.ensures c.if-give.false
+    let some : length a.bytes.now ≡ 0 → ⊥ = eqb-false _ 0 (sym c.is_empty.ensures ∙ c.if-is_empty.false) in
+    let fits : a.address + length a.bytes.now ≤ length a.cells.now = omega (arith, c.saturating_sub.ensures) in
+    place_twice a.address a.bytes.now a.cells.now _ _ some fits c.give.ensures c.if-give.false

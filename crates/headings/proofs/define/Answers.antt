@@ -1,66 +1,47 @@
 -- `headings::define` meets its contract: what was found, with what is left to read, is the whole. Assumes nothing.
-use mathlib.Core.Path.{sym, ◌∙◌}
-use native.Mathlib.Omega.{arith}
-use Rattle.tokens.proofs.TokenLaws.{found-end}
-use Rattle.headings.proofs.Stands.{stands-start, stands-over, stands-short, stands-moves, stands-codes, stands-names, stands-defines, stands-breaks}
+use borrow.Author.Rules.{rules}
+use Rattle.headings.proofs.Walks.{goes-smaller}
+use Rattle.headings.proofs.Stands.{stands-start, stands-over, stands-broken, stands-moves, stands-codes, stands-names, stands-defines}
 use Rattle.headings.proofs.define.Goals as goal
 
-pub loop-stage-init : goal.loop-stage-init
-loop-stage-init c = stands-start _ c.requires c.clear.ensures c.none-fault.ensures
+pub tokens-init : goal.tokens-init
+tokens-init c = stands-start _ _ c.requires (c.fill.ensures.after (λ y h. search rules))
 
-pub shape_of-table-then-is_over : goal.shape_of-table-then-is_over
-shape_of-table-then-is_over c = c.loop-stage.invariant.tabled.size ∙ sym c.requires
-
-pub returns-then-is_over : goal.returns-then-is_over
-returns-then-is_over c = stands-over c.loop-stage.invariant (sym c.is_over.ensures ∙ c.if-is_over.true)
-
-pub next-found-requires : goal.next-found-requires
-next-found-requires c = record { at_in_bounds = c.loop-stage.invariant.walks.within; line_le_at = c.loop-stage.invariant.walks.small }
-
-pub shape_of-table-in_default : goal.shape_of-table-in_default
-shape_of-table-in_default c = c.loop-stage.invariant.tabled.size ∙ sym c.requires
-
-pub returns-in_default : goal.returns-in_default
-returns-in_default c =
-    stands-short c.loop-stage.invariant (sym c.is_over.ensures ∙ c.if-is_over.false)
-    (found-end _ _ _ _ c.next-found.ensures c.in_default.is)
-
-pub loop-stage-preserved-in-Moves : goal.loop-stage-preserved-in-Moves
-loop-stage-preserved-in-Moves c = stands-moves c.loop-stage.invariant (record { goes = sym c.is_over.ensures ∙ c.if-is_over.false; found = c.in-Word.ensures; said = c.hear-step.ensures }) c.in-Moves.is
-
-pub loop-stage-preserved-in-Codes : goal.loop-stage-preserved-in-Codes
-loop-stage-preserved-in-Codes c = stands-codes c.loop-stage.invariant (record { goes = sym c.is_over.ensures ∙ c.if-is_over.false; found = c.in-Word.ensures; said = c.hear-step.ensures }) c.in-Codes.is
-
-pub slice_bounds-declare-count : goal.slice_bounds-declare-count
-slice_bounds-declare-count c =
-    let l = c.loop-stage.invariant in
-    omega (arith, l.starts, l.ends)
-
-pub slice_bounds-declare-start : goal.slice_bounds-declare-start
-slice_bounds-declare-start c =
-    let l = c.loop-stage.invariant in
-    omega (arith, l.starts, l.ends)
-
-pub slice_bounds-declare-end : goal.slice_bounds-declare-end
-slice_bounds-declare-end c =
-    let l = c.loop-stage.invariant in
-    omega (arith, l.starts, l.ends)
+pub next-requires : goal.next-requires
+next-requires c = record { at_in_bounds = c.tokens.invariant.walks.within; line_le_at = c.tokens.invariant.walks.small }
 
 pub declare-requires : goal.declare-requires
-declare-requires c = c.loop-stage.invariant.tabled.size
+declare-requires c = c.tokens.invariant.tabled.size
 
-pub loop-stage-preserved-in-Names : goal.loop-stage-preserved-in-Names
-loop-stage-preserved-in-Names c =
-    stands-names c.loop-stage.invariant (record { goes = sym c.is_over.ensures ∙ c.if-is_over.false; found = c.in-Word.ensures; said = c.hear-step.ensures }) c.in-Names.is c.wire_of-wire.ensures.value
-    c.twice.ensures c.join-fault.ensures c.lay-named.ensures.value c.declare.ensures
+pub tokens-smaller-in-Moves : goal.tokens-smaller-in-Moves
+tokens-smaller-in-Moves c = goes-smaller c.in-Token.word c.in-Token.step c.in-Token.ensures
 
-pub loop-stage-preserved : goal.loop-stage-preserved
-loop-stage-preserved c =
-    stands-defines c.loop-stage.invariant (record { goes = sym c.is_over.ensures ∙ c.if-is_over.false; found = c.in-Word.ensures; said = c.hear-step.ensures }) c.in-Defines.is c.missing.ensures
-    c.join-fault-in-Defines.ensures
+pub tokens-smaller-in-Codes : goal.tokens-smaller-in-Codes
+tokens-smaller-in-Codes c = goes-smaller c.in-Token.word c.in-Token.step c.in-Token.ensures
 
-pub shape_of-table-in-Breaks : goal.shape_of-table-in-Breaks
-shape_of-table-in-Breaks c = c.loop-stage.invariant.tabled.size ∙ sym c.requires
+pub tokens-smaller-in-Names : goal.tokens-smaller-in-Names
+tokens-smaller-in-Names c = goes-smaller c.in-Token.word c.in-Token.step c.in-Token.ensures
 
-pub returns-in-Breaks : goal.returns-in-Breaks
-returns-in-Breaks c = stands-breaks c.loop-stage.invariant (record { goes = sym c.is_over.ensures ∙ c.if-is_over.false; found = c.in-Word.ensures; said = c.hear-step.ensures }) c.in-Breaks.is c.join.ensures
+pub tokens-smaller : goal.tokens-smaller
+tokens-smaller c = goes-smaller c.in-Token.word c.in-Token.step c.in-Token.ensures
+
+pub tokens-preserved-in-Moves : goal.tokens-preserved-in-Moves
+tokens-preserved-in-Moves c = stands-moves c.tokens.invariant c.in-Token.word c.in-Token.step c.in-Token.ensures c.in-Moves.is
+
+pub tokens-preserved-in-Codes : goal.tokens-preserved-in-Codes
+tokens-preserved-in-Codes c = stands-codes c.tokens.invariant c.in-Token.word c.in-Token.step c.in-Token.ensures c.in-Codes.is
+
+pub tokens-preserved-in-Names : goal.tokens-preserved-in-Names
+tokens-preserved-in-Names c =
+    stands-names c.tokens.invariant c.in-Token.word c.in-Token.step c.in-Token.ensures _ c.in-Names.is
+    c.wire_of-wire.ensures.value c.twice.ensures c.join-fault.ensures c.lay-named.ensures.value c.declare.ensures
+
+pub tokens-preserved : goal.tokens-preserved
+tokens-preserved c =
+    stands-defines c.tokens.invariant c.in-Token.word c.in-Token.step c.in-Token.ensures _ c.in-Defines.is c.missing.ensures c.join-fault-in-Defines.ensures
+
+pub returns-in-Over : goal.returns-in-Over
+returns-in-Over c = stands-over c.tokens.invariant c.in-Over.ensures
+
+pub returns-in-Broken : goal.returns-in-Broken
+returns-in-Broken c = stands-broken c.tokens.invariant c.first.ensures c.in-Broken.ensures

@@ -1,25 +1,23 @@
 -- `image::read` meets its contract: the tests in their order, then the lines.
-use mathlib.Core.Path.{ap}
-use native.Mathlib.Omega.{arith}
-use Rattle.ground.specs.declared.kinds.Kind.{Kind}
+use Rattle.std.proofs.Common.{◌≡◌, Err, rules, arith}
 use Rattle.image.proofs.Sizes.{kind-most}
-use Rattle.image.proofs.Replies.{reads_none, reads-size, reads-long, reads_lines}
+use Rattle.image.proofs.Replies.{passed, reads-refused, reads-long, reads_lines}
 use Rattle.image.proofs.read.Goals as goal
 
-pub returns-then-kind-eq0 : goal.returns-then-kind-eq0
-returns-then-kind-eq0 c = reads_none _ _ _ c.kind_of-kind.ensures _ _ c.if-kind-eq0.true
-
-pub returns-then-array-kind : goal.returns-then-array-kind
-returns-then-array-kind c = reads-size _ _ _ c.kind_of-kind.ensures _ _ c.if-kind-eq0.false c.if-array-kind.true
+pub returns-in_err-array_size : goal.returns-in_err-array_size
+returns-in_err-array_size g c =
+    let same : c.from_residual.result ≡ Err record { reason = c.in_err-array_size.field-0.0; place = 0 } = search rules in
+    rw same (reads-refused _ _ _ c.array_size.ensures _ _ c.in_err-array_size.was)
 
 pub returns-then-text-gt-MOST_TEXT : goal.returns-then-text-gt-MOST_TEXT
-returns-then-text-gt-MOST_TEXT c = reads-long _ _ _ c.kind_of-kind.ensures _ _ c.if-kind-eq0.false c.if-array-kind.false c.if-text-gt-MOST_TEXT.true
+returns-then-text-gt-MOST_TEXT g c =
+    rw c.into.ensures (reads-long _ _ _ c.array_size.ensures _ _ c.in_ok-array_size.was c.if-text-gt-MOST_TEXT.true)
 
-pub read_fresh-requires : goal.read_fresh-requires
-read_fresh-requires c =
-    let e = ap (λ (k : Kind). k.size) c.kind_of-kind.ensures in
-    let h = c.if-array-kind.false in
-    record { text_len_bound = c.if-text-gt-MOST_TEXT.false; array_len_bound = omega (arith, e, h, kind-most c.args.part) }
+pub read_fresh-requires-clause-array_len_bound : goal.read_fresh-requires-clause-array_len_bound
+read_fresh-requires-clause-array_len_bound g c =
+    let size = passed g.F.RecordForm.form_of _ _ c.array_size.ensures _ c.in_ok-array_size.was in
+    omega (arith, size.2, size.3, kind-most c.args.part)
 
 pub returns : goal.returns
-returns c = reads_lines _ _ _ c.kind_of-kind.ensures _ _ _ _ c.if-kind-eq0.false c.if-array-kind.false c.if-text-gt-MOST_TEXT.false c.read_fresh.ensures
+returns g c =
+    reads_lines _ _ _ c.array_size.ensures _ _ _ _ c.in_ok-array_size.was c.if-text-gt-MOST_TEXT.false c.read_fresh.ensures

@@ -4,8 +4,8 @@ use lib.ListN.{length}
 use Rattle.judging.specs.Kept.{Kept}
 use Rattle.judging.proofs.judge_body.Given as goal
 
-abbrev pub invariant-loop-from : goal.invariant-loop-from
-invariant-loop-from l = Kept l.dump l.at l.line l.fault l.mode l.heard
+abbrev pub invariant-loop-word : goal.invariant-loop-word
+invariant-loop-word l = Kept l.dump l.at l.line l.fault l.mode l.heard
 
-abbrev pub decreases-loop-from : goal.decreases-loop-from
-decreases-loop-from l = length l.dump - l.at
+abbrev pub decreases-loop-word : goal.decreases-loop-word
+decreases-loop-word l = length l.dump - l.at

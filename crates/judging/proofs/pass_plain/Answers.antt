@@ -31,13 +31,13 @@ loop-at-preserved-then-first-eq-ZERO_OR_ONE c =
     passing-value _ _ _ _ _ _ _ _ c.loop-at.invariant _ _ _ _
     (seen_value _ _ _ _ c.past_blank-past.ensures _ c.marks_at.ensures c.if-marks_at-eq0.false) c.if-first-eq-ZERO_OR_ONE.true c.requires.given_value
 
-pub time_at-seen-requires : goal.time_at-seen-requires
-time_at-seen-requires c =
+pub time_at-requires : goal.time_at-requires
+time_at-requires c =
     record { from_in_bounds = omega (arith, c.past_blank-past.ensures.near, c.if-dump-at-lt-FAR.false); from_value = c.if-first-ne-HASH.false }
 
 pub overflow_add-at-else-first-eq-ZERO_OR_ONE : goal.overflow_add-at-else-first-eq-ZERO_OR_ONE
 overflow_add-at-else-first-eq-ZERO_OR_ONE c =
-    let i = passing-inside _ _ _ _ _ _ _ _ c.loop-at.invariant _ _ c.past_blank-past.ensures c.time_at-seen.ensures c.if-now-time.false in
+    let i = passing-inside _ _ _ _ _ _ _ _ c.loop-at.invariant _ _ c.past_blank-past.ensures c.in-Some.ensures c.if-now-time.false in
     omega (arith, i, c.well_formed.0.1)
 
 pub overflow_add-lines : goal.overflow_add-lines
@@ -48,9 +48,9 @@ overflow_add-samples c = omega (arith, (passing-small _ _ _ _ _ _ _ _ c.loop-at.
 
 pub loop-at-smaller : goal.loop-at-smaller
 loop-at-smaller c =
-    let f = passing-further _ _ _ _ _ _ _ _ c.loop-at.invariant _ _ c.past_blank-past.ensures c.time_at-seen.ensures c.if-now-time.false in
+    let f = passing-further _ _ _ _ _ _ _ _ c.loop-at.invariant _ _ c.past_blank-past.ensures c.in-Some.ensures c.if-now-time.false in
     omega (arith, f, c.if-dump-at-lt-FAR.false)
 
 pub loop-at-preserved : goal.loop-at-preserved
 loop-at-preserved c =
-    passing-time _ _ _ _ _ _ _ _ c.loop-at.invariant _ _ c.past_blank-past.ensures c.time_at-seen.ensures c.if-now-time.false (omega arith)
+    passing-time _ _ _ _ _ _ _ _ c.loop-at.invariant _ _ c.past_blank-past.ensures c.in-Some.ensures c.if-now-time.false (omega arith)

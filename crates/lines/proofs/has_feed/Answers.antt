@@ -1,19 +1,14 @@
--- `lines::has_feed` meets its contract: the tests so far, and those that are left, are the tests of the whole.
-use mathlib.Core.Path.{refl, ◌∙◌}
-use native.Mathlib.Omega.{arith}
-use native.Mathlib.Numerals.{add-one}
-use borrow.Author.Rules.{rules}
-use Rattle.lines.proofs.LineLaws.{feed-turn, feed-done}
+-- `lines::has_feed` meets its contract.
+use Rattle.std.proofs.Common.{◌||◌, false, rules, tests}
+use Rattle.std.proofs.lemmas.Iterator.Consumers.{fold_from_yields_List}
+use Rattle.std.proofs.lemmas.Iterator.{YieldsList-from_slice}
+use Rattle.lines.proofs.LineLaws.{feed_found}
 use Rattle.lines.proofs.has_feed.Goals as goal
-
-pub loop-i-init : goal.loop-i-init
-loop-i-init c = (search rules, refl)
-
-pub loop-i-preserved : goal.loop-i-preserved
-loop-i-preserved c =
-    let b = c.loop-i in
-    let text = c.args.text.now in
-    (omega arith, rw add-one (feed-turn text b.any b.i (omega arith) ∙ b.invariant.1))
+use Rattle.lines.specs.Lines.{line_feed}
+use lib.Dec.{eqb}
 
 pub returns : goal.returns
-returns c = feed-done _ _ c.loop-i.i (omega arith) c.loop-i.invariant.1
+returns c =
+    feed_found c.fold.result c.args.text.now
+    (fold_from_yields_List _ (λ any x. any || eqb x line_feed) false c.fold.result c.fold.ensures.ran
+    (YieldsList-from_slice c.args.text.now cc) (λ any x r q called. search (rules, tests)))

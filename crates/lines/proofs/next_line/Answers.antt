@@ -9,10 +9,10 @@ trim-requires c =
     let k = line-fits args.text.now args.at (omega arith) in
     record { at_le_feed = omega arith; feed_in_bounds = omega arith }
 
-pub returns-then-at-text : goal.returns-then-at-text
-returns-then-at-text c =
-    let args = c.args in
-    step_line args.text.now args.at _ _ (omega arith) c.feed-end.ensures c.trim.ensures
-
 pub returns : goal.returns
-returns c = step_end _ _ c.if-at-text.false
+returns c =
+    let args = c.args in
+    step_line args.text.now args.at _ _ (omega arith) c.feed-feed.ensures c.trim.ensures
+
+pub returns-then-at-text : goal.returns-then-at-text
+returns-then-at-text c = step_end _ _ c.if-at-text.true

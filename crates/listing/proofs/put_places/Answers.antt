@@ -9,15 +9,6 @@ use Rattle.listing.proofs.put_places.Goals.{then-disagree, else-disagree}
 pub loop-i-init : goal.loop-i-init
 loop-i-init c = writing-starts _ _ _ _
 
-pub bounds-levels-i : goal.bounds-levels-i
-bounds-levels-i c = omega arith
-
-pub bounds-answers-i : goal.bounds-answers-i
-bounds-answers-i c = omega arith
-
-pub overflow_add-first : goal.overflow_add-first
-overflow_add-first c = omega arith
-
 pub put_decimal-at-requires : goal.put_decimal-at-requires
 put_decimal-at-requires c =
     let inv = c.loop-i.invariant in
@@ -27,15 +18,6 @@ pub bounds-out-at : goal.bounds-out-at
 bounds-out-at c =
     let inv = c.loop-i.invariant in
     omega (arith, inv.few, inv.long, c.put_decimal-at.auto.out, c.put_decimal-at.ensures.upper_bound)
-
-pub overflow_add-at : goal.overflow_add-at
-overflow_add-at c = omega arith
-
-pub overflow_add-i : goal.overflow_add-i
-overflow_add-i c = omega arith
-
-pub loop-i-smaller : goal.loop-i-smaller
-loop-i-smaller c = omega arith
 
 pub loop-i-preserved : goal.loop-i-preserved
 loop-i-preserved c =

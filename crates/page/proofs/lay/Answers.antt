@@ -1,45 +1,43 @@
 -- `page::lay` meets its contract: what is laid so far, and what is left to lay over the rest, is the whole.
-use Prim.Native.Nat.{◌≤◌, ◌<◌}
-use mathlib.Core.Path.{refl, ◌∙◌}
+use Prim.Native.Nat.{suc, ◌<◌, ◌≤◌}
+use mathlib.Core.Bool.{true}
+use mathlib.Core.Path.{◌≡◌, sym, ◌∙◌}
+use mathlib.Core.Logic.{◌⊎◌, inl, inr}
 use native.Mathlib.Omega.{arith}
 use native.Mathlib.Numerals.{add-one}
-use borrow.Author.Rules.{rules}
-use lib.ListN.{length, length-set}
-use Rattle.page.proofs.Laws.{lay-short, lay-whole, lay-turn}
+use lib.ListN.{length}
+use Rattle.std.specs.Iterator.Adapters.{enumerate_source, enumerate_count, zip_first, zip_second}
+use Rattle.std.specs.Slice.Iter.{iter_rest}
+use Rattle.page.proofs.Laws.{lay-turn, lay-kept, lay-short, lay-whole}
 use Rattle.page.proofs.lay.Goals as goal
+use Rattle.page.proofs.lay.Goals.{else-mark-via-then-mark+else-index-page, else-mark-via-else-mark}
 
-pub loop-i-init : goal.loop-i-init
-loop-i-init c = (search rules, refl, search rules, search rules, refl)
+pub loop-index-preserved-then-index-page : goal.loop-index-preserved-then-index-page
+loop-index-preserved-then-index-page c =
+    let s = c.in-Some.ensures.steps in
+    let h : enumerate_count c.loop-index.index-iterator < length c.loop-index.page = rw s.1 at c.if-index-page.true in
+    rw (s.2, s.1, add-one)
+    (lay-turn true c.in-Some.byte.now _ _ _ _ h ∙ (rw (s.0.0, s.0.1, c.if-mark.true) at c.loop-index.invariant))
 
-pub shape_of-page-then-page-i : goal.shape_of-page-then-page-i
-shape_of-page-then-page-i c = c.loop-i.invariant.1
-
-pub returns-then-page-i : goal.returns-then-page-i
-returns-then-page-i c = lay-short _ _ _ _ _ c.if-page-i.true c.loop-i.invariant.4
-
-pub loop-i-smaller : goal.loop-i-smaller
-loop-i-smaller c = omega arith
-
-pub loop-i-preserved : goal.loop-i-preserved
-loop-i-preserved c =
-    let at = c.loop-i in
-    let load = c.args.load in
-    let inv = at.invariant in
-    let p : at.i < length load.marks = omega arith in
-    let q : at.i < length load.bytes = omega arith in
-    let r : at.i < length at.page = omega arith in (
-      omega arith,
-      rw (c.put.ensures, length-set) inv.1,
-      inv.2,
-      inv.3,
-      rw (add-one, c.put.ensures) (lay-turn load.marks load.bytes at.page at.i _ p q r refl ∙ inv.4),
-    )
-
-pub shape_of-page : goal.shape_of-page
-shape_of-page c = c.loop-i.invariant.1
+pub loop-index-preserved : goal.loop-index-preserved
+loop-index-preserved c =
+    let s = c.in-Some.ensures.steps in
+    elim c.else-mark.branch [
+      | else-mark-via-then-mark+else-index-page w ↦
+          let it = c.loop-index.index-iterator in
+          let h : length c.loop-index.page ≤ enumerate_count it = omega (arith, s.1, w.if-index-page.false) in
+          let k : length c.loop-index.page ≤ suc (enumerate_count it) = omega (arith, h) in
+          rw (s.2, add-one) (lay-short _ _ _ _ k ∙ sym (lay-short _ _ _ _ h) ∙ c.loop-index.invariant)
+      | else-mark-via-else-mark w ↦
+          rw (s.2, add-one)
+          (lay-kept c.in-Some.byte.now _ _ _ _ ∙ (rw (s.0.0, s.0.1, w.if-mark.false) at c.loop-index.invariant))
+    ]
 
 pub returns : goal.returns
 returns c =
-    let inv = c.loop-i.invariant in
-    let h : length c.args.load.marks ≤ c.loop-i.i = omega arith in
-    lay-whole _ _ _ _ _ h inv.4
+    let it = c.loop-index.index-iterator in
+    let marks = iter_rest (zip_first (enumerate_source it)) in
+    let bytes = iter_rest (zip_second (enumerate_source it)) in
+    let e : (length marks ≡ 0) ⊎ (length bytes ≡ 0) =
+    elim c.in-None.ensures.steps.0 [ inl x ↦ inl x.1.0 | inr x ↦ inr x.1.0 ] in
+    sym (lay-whole marks bytes c.loop-index.page (enumerate_count it) e) ∙ c.loop-index.invariant

@@ -1,18 +1,14 @@
 -- `page::lay` meets its contract: what is laid so far, and what is left to lay over the rest, is the whole.
-use Prim.Native.Nat.{◌≤◌, ◌-◌}
 use mathlib.Core.Path.{◌≡◌}
 use mathlib.Core.List.{◌++◌}
-use lib.ListN.{length, drop, take}
+use lib.ListN.{drop, take}
+use Rattle.std.specs.Iterator.Adapters.{enumerate_source, enumerate_count, zip_first, zip_second}
+use Rattle.std.specs.Slice.Iter.{iter_rest}
 use Rattle.page.specs.Page.{lay_of}
 use Rattle.page.proofs.lay.Given as goal
 
-abbrev pub invariant-loop-i : goal.invariant-loop-i
-invariant-loop-i l =
-    (l.i ≤ 64)
-    × (length l.page ≡ length l.initial.page)
-    × (length l.load.marks ≡ 64)
-    × (length l.load.bytes ≡ 64)
-    × (take l.i l.page ++ lay_of (drop l.i l.load.marks) (drop l.i l.load.bytes) (drop l.i l.page) ≡ lay_of l.load.marks l.load.bytes l.initial.page)
-
-abbrev pub decreases-loop-i : goal.decreases-loop-i
-decreases-loop-i l = 64 - l.i
+abbrev pub invariant-loop-index : goal.invariant-loop-index
+invariant-loop-index l =
+    let it = l.index-iterator in
+    take (enumerate_count it) l.page ++ lay_of (iter_rest (zip_first (enumerate_source it))) (iter_rest (zip_second (enumerate_source it))) (drop (enumerate_count it) l.page)
+    ≡ lay_of l.fn.load.marks l.fn.load.bytes l.initial.page

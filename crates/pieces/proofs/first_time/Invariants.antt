@@ -4,8 +4,8 @@ use lib.ListN.{length}
 use Rattle.pieces.proofs.Reading.{Starting}
 use Rattle.pieces.proofs.first_time.Given as goal
 
-abbrev pub invariant-loop-begins : goal.invariant-loop-begins
-invariant-loop-begins l = Starting l.dump l.from l.at l.on l.mode
+abbrev pub invariant-loop-word : goal.invariant-loop-word
+invariant-loop-word l = Starting l.dump l.from l.at l.on l.mode
 
-abbrev pub decreases-loop-begins : goal.decreases-loop-begins
-decreases-loop-begins l = length l.dump - l.at
+abbrev pub decreases-loop-word : goal.decreases-loop-word
+decreases-loop-word l = length l.dump - l.at

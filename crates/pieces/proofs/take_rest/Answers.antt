@@ -1,68 +1,28 @@
 -- `pieces::take_rest` meets its contract. The loop's invariant: what is left of the dump, with the levels so far, gives the same moments.
 -- Assumes nothing.
-use native.Mathlib.Omega.{arith}
-use Rattle.tokens.proofs.TokenLaws.{found_word, found-end, word-length}
-use Rattle.pieces.proofs.Reading.{moving-first, moving-value, moving-moves, moves-time, moves-breaks, moves-none}
+use mathlib.Core.Path.{ap, ◌∙◌}
+use Rattle.std.proofs.Common.{Some}
+use Rattle.pieces.proofs.Reading.{moving-value, moving-moves, moves-time, moves-breaks, moves-none}
 use Rattle.pieces.proofs.take_rest.Goals as goal
 
-pub loop-begins-init : goal.loop-begins-init
-loop-begins-init c = moving-first _ _ _ c.requires.from_in_bounds
-
-pub next-found-requires : goal.next-found-requires
-next-found-requires c = record { at_in_bounds = c.loop-begins.invariant.inside; line_le_at = c.loop-begins.invariant.small }
-
 pub returns-in_default : goal.returns-in_default
-returns-in_default c = moves-none _ _ _ _ _ _ _ c.loop-begins.invariant (found-end _ _ _ _ c.next-found.ensures c.in_default.is)
+returns-in_default c = moves-none _ _ _ _ _ _ _ c.loop-word.invariant c.in_default.ensures
 
-pub slice_bounds-change_of-count : goal.slice_bounds-change_of-count
-slice_bounds-change_of-count c =
-    let w = found_word _ _ _ _ _ _ _ c.next-found.ensures c.in-Word.is in
-    omega arith
-
-pub slice_bounds-change_of-start : goal.slice_bounds-change_of-start
-slice_bounds-change_of-start c =
-    let w = found_word _ _ _ _ _ _ _ c.next-found.ensures c.in-Word.is in
-    omega arith
-
-pub slice_bounds-change_of-end : goal.slice_bounds-change_of-end
-slice_bounds-change_of-end c =
-    let w = found_word _ _ _ _ _ _ _ c.next-found.ensures c.in-Word.is in
-    omega arith
-
-pub change_of-change-requires : goal.change_of-change-requires
-change_of-change-requires c =
-    let w = found_word _ _ _ _ _ _ _ c.next-found.ensures c.in-Word.is in
-    record { tabled = c.requires.tabled; word_nonzero = rw (word-length _ _ _ _ _ _ w) (omega arith) }
+pub returns-in_default-change_of : goal.returns-in_default-change_of
+returns-in_default-change_of c =
+    moves-breaks _ _ _ _ _ _ _ c.loop-word.invariant _ _ _ c.in-Some.ensures _ c.change_of.ensures c.in_default-change_of.is
 
 pub returns-in-Time : goal.returns-in-Time
 returns-in-Time c =
-    let w = found_word _ _ _ _ _ _ _ c.next-found.ensures c.in-Word.is in
-    moves-time _ _ _ _ _ _ _ c.loop-begins.invariant _ _ _ w _ c.change_of-change.ensures _ c.in-Time.is
+    moves-time _ _ _ _ _ _ _ c.loop-word.invariant _ _ _ c.in-Some.ensures _ c.change_of.ensures _
+    (c.in-Some-change_of.is ∙ ap Some c.in-Time.is)
 
-pub lay-levels-requires : goal.lay-levels-requires
-lay-levels-requires c = c.level_of.ensures.upper_bound
+pub loop-word-preserved-in-Value : goal.loop-word-preserved-in-Value
+loop-word-preserved-in-Value c =
+    moving-value _ _ _ _ _ _ _ c.loop-word.invariant _ _ _ c.in-Some.ensures _ c.change_of.ensures _ _
+    (c.in-Some-change_of.is ∙ ap Some c.in-Value.is) c.level_of.ensures.value c.lay-level.ensures.value c.lay-level.ensures.upper_bound
 
-pub loop-begins-smaller-in-Value : goal.loop-begins-smaller-in-Value
-loop-begins-smaller-in-Value c =
-    let w = found_word _ _ _ _ _ _ _ c.next-found.ensures c.in-Word.is in
-    omega arith
-
-pub loop-begins-preserved-in-Value : goal.loop-begins-preserved-in-Value
-loop-begins-preserved-in-Value c =
-    let w = found_word _ _ _ _ _ _ _ c.next-found.ensures c.in-Word.is in
-    moving-value _ _ _ _ _ _ _ c.loop-begins.invariant _ _ _ w _ c.change_of-change.ensures _ _ c.in-Value.is c.level_of.ensures.value c.lay-levels.ensures.value c.lay-levels.ensures.upper_bound
-
-pub loop-begins-smaller : goal.loop-begins-smaller
-loop-begins-smaller c =
-    let w = found_word _ _ _ _ _ _ _ c.next-found.ensures c.in-Word.is in
-    omega arith
-
-pub loop-begins-preserved : goal.loop-begins-preserved
-loop-begins-preserved c =
-    let w = found_word _ _ _ _ _ _ _ c.next-found.ensures c.in-Word.is in
-    moving-moves _ _ _ _ _ _ _ c.loop-begins.invariant _ _ _ w _ c.change_of-change.ensures _ c.in-Moves.is
-
-pub returns-in-Breaks : goal.returns-in-Breaks
-returns-in-Breaks c =
-    let w = found_word _ _ _ _ _ _ _ c.next-found.ensures c.in-Word.is in
-    moves-breaks _ _ _ _ _ _ _ c.loop-begins.invariant _ _ _ w _ c.change_of-change.ensures c.in-Breaks.is
+pub loop-word-preserved : goal.loop-word-preserved
+loop-word-preserved c =
+    moving-moves _ _ _ _ _ _ _ c.loop-word.invariant _ _ _ c.in-Some.ensures _ c.change_of.ensures _
+    (c.in-Some-change_of.is ∙ ap Some c.in-Moves.is)

@@ -5,8 +5,8 @@ use lib.ListN.{length}
 use Rattle.pieces.proofs.Reading.{Moving}
 use Rattle.pieces.proofs.take_rest.Given as goal
 
-abbrev pub invariant-loop-begins : goal.invariant-loop-begins
-invariant-loop-begins l = Moving l.dump l.from l.level l.at l.on l.mode l.levels
+abbrev pub invariant-loop-word : goal.invariant-loop-word
+invariant-loop-word l = Moving l.dump l.from l.before l.at l.on l.mode l.level
 
-abbrev pub decreases-loop-begins : goal.decreases-loop-begins
-decreases-loop-begins l = length l.dump - l.at
+abbrev pub decreases-loop-word : goal.decreases-loop-word
+decreases-loop-word l = length l.dump - l.at

@@ -12,26 +12,8 @@ use Rattle.places.proofs.gather.Goals.{then-disagree, then-found-places, else-fo
 pub loop-i-init : goal.loop-i-init
 loop-i-init c = gathering-starts _ _ _ _ _ c.requires.before_le_first
 
-pub bounds-levels-i : goal.bounds-levels-i
-bounds-levels-i c = omega arith
-
-pub bounds-answers-i : goal.bounds-answers-i
-bounds-answers-i c = omega arith
-
-pub overflow_add-places : goal.overflow_add-places
-overflow_add-places c = omega arith
-
-pub bounds-places-found : goal.bounds-places-found
-bounds-places-found c = omega arith
-
 pub overflow_add-found : goal.overflow_add-found
 overflow_add-found c = omega (arith, c.loop-i.invariant.few)
-
-pub overflow_add-i : goal.overflow_add-i
-overflow_add-i c = omega arith
-
-pub loop-i-smaller : goal.loop-i-smaller
-loop-i-smaller c = omega arith
 
 pub loop-i-preserved : goal.loop-i-preserved
 loop-i-preserved c =

@@ -2,7 +2,6 @@
 use mathlib.Core.Path.{◌≡◌, sym, ◌∙◌}
 use native.Mathlib.Omega.{arith}
 use native.Mathlib.Numerals.{add-one}
-use borrow.Author.Rules.{scaled_Fits}
 use lib.ListN.{get_or, length-set}
 use Rattle.part.specs.Bench.{part_of}
 use Rattle.sample.specs.Run.{part_step}
@@ -13,44 +12,11 @@ use Rattle.plain.proofs.ahead.Goals as goal
 pub returns-then-levels-from : goal.returns-then-levels-from
 returns-then-levels-from c = goes_none _ _ _ _ _ c.requires.from_in_bounds
 
-pub vcc-requires : goal.vcc-requires
-vcc-requires c = tt
-
-pub pass-requires : goal.pass-requires
-pass-requires c = c.requires
-
-pub returns-then-vcc : goal.returns-then-vcc
-returns-then-vcc c = c.pass.ensures
-
-pub offset_bounds-elapsed-from : goal.offset_bounds-elapsed-from
-offset_bounds-elapsed-from c = scaled_Fits _ _ 4 (omega (arith, c.if-levels-from.false, c.requires.elapsed_len)) c.well_formed.1.0.1
-
-pub bounds-elapsed-from : goal.bounds-elapsed-from
-bounds-elapsed-from c = omega (arith, c.if-levels-from.false, c.requires.elapsed_len)
-
-pub opens-requires : goal.opens-requires
-opens-requires c = tt
-
-pub in_reset-first-requires : goal.in_reset-first-requires
-in_reset-first-requires c = tt
-
-pub answer-requires : goal.answer-requires
-answer-requires c = tt
-
-pub bounds-row-from : goal.bounds-row-from
-bounds-row-from c = omega (arith, c.if-levels-from.false, c.requires.row_len)
-
-pub overflow_add-from : goal.overflow_add-from
-overflow_add-from c = omega (arith, c.if-levels-from.false, c.well_formed.1.1.0.0)
-
 pub pass-requires-2 : goal.pass-requires-2
 pass-requires-2 c =
     let pre = c.requires in
     let v = sym c.vcc.ensures ∙ c.if-vcc.false in
     record { elapsed_len = pre.elapsed_len; row_len = simp length-set pre.row_len; from_in_bounds = omega (arith, c.if-levels-from.false); dark = rw (c.in_reset-first.ensures, c.opens.ensures) (first-dark _ _ _ v) }
-
-pub shape_of-row : goal.shape_of-row
-shape_of-row c = c.pass-2.auto.row ∙ simp length-set
 
 pub returns : goal.returns
 returns c =

@@ -1,10 +1,11 @@
 -- One sample keeps all that the reachable states keep beside the ranges, in one record that holds its parts together.
 -- Assumes nothing.
 use Prim.Native.Nat.{ℕ}
-use mathlib.Core.Bool.{Bool, true, false, true≢false, ◌&&◌}
+use mathlib.Core.Bool.{Bool, true, false, true≢false}
 use mathlib.Core.List.{List}
 use mathlib.Core.Path.{◌≡◌, refl}
 use native.Mathlib.Omega.{arith}
+use Rattle.std.proofs.lemmas.Bool.{and_right}
 use Rattle.ground.specs.Numbers.{most_bits}
 use Rattle.ground.specs.Kind.{kind_of}
 use Rattle.timers.specs.Timers.{writes, timed_of, supplied_of}
@@ -81,18 +82,13 @@ heard-sits (Ninth b) wp array s w e h g =
     (omega arith))
     (λ x y. absurd (omega (arith, e.0)))
 
--- Own SDA low is low on the line.
-pub low-line : (x own : Bool) → own ≡ false → (x && own) ≡ false
-low-line true own e = e
-low-line false own e = refl
-
 -- Rule 4 keeps it.
 wired-sits : (level : ℕ) (array : List ℕ) (s : State) → Sits s
     → Sits (heard_by (sign_in level s) (wp_of level) array (wired_of level s))
 unfolding sign_in wired_of wire_of
 wired-sits level array s g =
     heard-sits (sign_in level s) (wp_of level) array s (wire_of s.wire (scl_of level) (line_of level s))
-    (saw s.wire (scl_of level) (line_of level s)) (low-line (sda_of level) s.device.talk.own) g
+    (saw s.wire (scl_of level) (line_of level s)) (and_right (sda_of level) s.device.talk.own) g
 
 -- The state after rules 1 and 2, with the supply and the timers after rule 1.
 abbrev opened : Bool → Timers → State → State

@@ -4,14 +4,13 @@ use mathlib.Core.Path.{◌≡◌}
 use lib.ListN.{length, drop}
 use Rattle.lines.specs.Lines.{lines_of}
 use Rattle.forms.specs.Reading.{lines_read}
-use Rattle.formats.specs.Formats.{form_of}
 use Rattle.reader.proofs.read_lines.Given as goal
 
-abbrev pub invariant-loop-trimmed : goal.invariant-loop-trimmed
-invariant-loop-trimmed l =
+abbrev pub invariant-loop-line : goal.invariant-loop-line
+invariant-loop-line g l = let form = g.F.RecordForm.form_of in
     (length l.room ≡ length l.initial.room)
     × (length l.cells ≡ length l.initial.cells)
-    × (lines_read (form_of l.format) (length l.text) 0 l.initial.cells (lines_of l.text) ≡ lines_read (form_of l.format) (length l.text) l.at l.cells (lines_of (drop l.at l.text)))
+    × (lines_read form (length l.text) 0 l.initial.cells (lines_of l.text) ≡ lines_read form (length l.text) l.at l.cells (lines_of (drop l.at l.text)))
 
-abbrev pub decreases-loop-trimmed : goal.decreases-loop-trimmed
-decreases-loop-trimmed l = length l.text - l.at
+abbrev pub decreases-loop-line : goal.decreases-loop-line
+decreases-loop-line g l = length l.text - l.at

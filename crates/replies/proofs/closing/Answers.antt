@@ -6,7 +6,7 @@ use Rattle.replies.proofs.closing.Goals as goal
 pub returns : goal.returns
 returns c =
     let words = c.closing_words-words in
-    let register = c.register-register in
+    let register = c.register in
     record {
       register = register.result;
       reads = register.ensures;

@@ -4,4 +4,4 @@ use Rattle.replies.proofs.Filled.{opening-bytes}
 use Rattle.replies.proofs.opening.Goals as goal
 
 pub returns : goal.returns
-returns c = c.encode.ensures ∙ rw c.opening_words-words.ensures (opening-bytes _ _ refl)
+returns c = c.encode.ensures ∙ rw c.opening_words.ensures (opening-bytes _ _ refl)

@@ -3,10 +3,11 @@ use mathlib.Core.Bool.{not}
 use mathlib.Core.Path.{◌≡◌, refl, ap, ◌∙◌}
 use native.Mathlib.Omega.{arith}
 use borrow.Author.Rules.{rules}
-use lib.ListN.{get_or}
+use Prim.Native.Nat.{ℕ}
+use lib.ListN.{get_or, length, drop}
 use lib.Dec.{eqb}
 use Rattle.lines.specs.Lines.{line_feed}
-use Rattle.tokens.specs.Tokens.{line_by}
+use Rattle.tokens.specs.Tokens.{line_by, tokens_from}
 use Rattle.tokens.proofs.TokenLaws.{line-feed, line_same, goes-here, pass-turn}
 use Rattle.tokens.proofs.pass_blanks.Goals as goal
 use Rattle.tokens.proofs.pass_blanks.Goals.{then-character-eq-LINE_FEED, else-character-eq-LINE_FEED}
@@ -43,4 +44,12 @@ loop-i-preserved c =
 pub returns : goal.returns
 returns c =
     let b = c.loop-i in
-    record { from = b.invariant.0; inside = b.invariant.1; small = b.invariant.2; left = b.invariant.3; stops = λ h. absurd (omega arith) }
+    let text = c.args.text.now in
+    let e : b.i ≡ length text = omega arith in
+    record {
+      from = omega arith;
+      inside = omega arith;
+      small = omega arith;
+      left = b.invariant.3 ∙ ap (λ (i : ℕ). tokens_from b.on (drop i text)) e;
+      stops = λ h. absurd (omega arith);
+    }

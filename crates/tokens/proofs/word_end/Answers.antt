@@ -1,35 +1,25 @@
--- `tokens::word_end` meets its contract: what is passed is of the token. Assumes nothing.
-use Prim.Native.Nat.{◌-◌}
-use mathlib.Core.Bool.{not}
-use mathlib.Core.Path.{◌≡◌, ap, ◌∙◌}
+-- `tokens::word_end` meets its contract: no blank stands before the first one. Assumes nothing.
+use Prim.Native.Nat.{ℕ, ◌-◌}
+use mathlib.Core.List.{List}
+use mathlib.Core.Path.{◌≡◌}
 use native.Mathlib.Omega.{arith}
 use borrow.Author.Rules.{rules}
-use Rattle.tokens.proofs.TokenLaws.{goes-here, goes-nowhere, word-turn}
+use borrow.Author.Tests.{tests}
+use lib.ListN.{length, take, drop}
+use Rattle.std.specs.Option.{unwrap_or}
+use Rattle.std.proofs.lemmas.Slice.{between_to_end}
+use Rattle.std.proofs.lemmas.Iterator.{YieldsList-from_slice}
+use Rattle.std.proofs.lemmas.Iterator.Search.{position_from_yields_List}
+use Rattle.tokens.specs.Tokens.{blank}
+use Rattle.tokens.proofs.TokenLaws.{ends-first, or-length}
 use Rattle.tokens.proofs.word_end.Goals as goal
-
-pub loop-i-init : goal.loop-i-init
-loop-i-init c =
-    let args = c.args in
-    let z : args.at - args.at ≡ 0 = omega arith in
-    (search rules, search rules, rw z)
-
-pub returns-then-is_blank : goal.returns-then-is_blank
-returns-then-is_blank c =
-    let b = c.loop-i in
-    record {
-      from = b.invariant.0;
-      inside = b.invariant.1;
-      word = b.invariant.2;
-      stops = goes-here _ b.i (omega arith) c.is_blank.ensures ∙ ap not c.if-is_blank.true;
-    }
-
-pub loop-i-preserved : goal.loop-i-preserved
-loop-i-preserved c =
-    let b = c.loop-i in
-    (omega arith, omega arith, word-turn _ _ b.i (omega arith) (omega arith) c.is_blank.ensures c.if-is_blank.false b.invariant.2)
 
 pub returns : goal.returns
 returns c =
-    let b = c.loop-i in
-    let text = c.args.text.now in
-    record { from = b.invariant.0; inside = b.invariant.1; word = b.invariant.2; stops = goes-nowhere text b.i (omega arith) }
+    let rest : List ℕ = drop c.args.at c.args.text.now in
+    let whole : take (length c.args.text.now - c.args.at) rest ≡ rest =
+    between_to_end c.args.text.now c.args.at (length c.args.text.now) (omega arith) in
+    let found = position_from_yields_List blank _ _ c.position.result c.position.ensures.ran (YieldsList-from_slice rest cc) (λ x b q k. search (rules, tests)) in
+    let length_of : unwrap_or c.position.result (length rest) ≡ c.unwrap_or-length.result = cc in
+    let first = or-length rest in
+    ends-first _ _ _ c.requires cc

@@ -5,17 +5,17 @@ use Rattle.transfers.proofs.list.Goals as goal
 pub walk-requires : goal.walk-requires
 walk-requires c =
     let a = c.args in
-    let j = c.judge_capture-reply in
-    walk_rows a.state a.elapsed.now a.levels.now a.array.now a.entries.now j.result j.ensures _ c.in-Accepted.is
+    let j = c.judge_capture in
+    walk_rows a.state a.elapsed.now a.levels.now a.array.now a.entries.now j.result j.ensures _ c.in-Ok.is
 
-pub returns-in-Accepted : goal.returns-in-Accepted
-returns-in-Accepted c =
-    let j = c.judge_capture-reply in
+pub returns-in-Ok : goal.returns-in-Ok
+returns-in-Ok c =
+    let j = c.judge_capture in
     let a = c.args in
-    list-accepted a.state a.elapsed.now a.levels.now a.array.now a.entries.now j.result j.ensures _ _ _ _ c.in-Accepted.is c.walk.ensures
+    list-accepted a.state a.elapsed.now a.levels.now a.array.now a.entries.now j.result j.ensures _ _ _ _ c.in-Ok.is c.walk.ensures
 
-pub returns-in-Refused : goal.returns-in-Refused
-returns-in-Refused c =
-    let j = c.judge_capture-reply in
+pub returns-in-Err : goal.returns-in-Err
+returns-in-Err c =
+    let j = c.judge_capture in
     let a = c.args in
-    list-refused a.state a.elapsed.now a.levels.now a.array.now a.entries.now j.result j.ensures _ _ c.in-Refused.is
+    list-refused a.state a.elapsed.now a.levels.now a.array.now a.entries.now j.result j.ensures _ c.in-Err.is

@@ -3,25 +3,12 @@ use mathlib.Core.Path.{◌≡◌, sym, ap, ◌∙◌}
 use native.Mathlib.Omega.{arith}
 use Rattle.lock.specs.Lock.{block_code, extent_of}
 use Rattle.lock.specs.declared.Extent.{Extent}
-use Rattle.withheld.specs.Withheld.{data_reason}
 use Rattle.withheld.proofs.Pages.{locked-within}
 use Rattle.withheld.proofs.data.Goals as goal
 
 pub overflow_sub-last : goal.overflow_sub-last
 overflow_sub-last c =
     let a = c.args in
-    let w = locked-within a.kind a.control.stored a.counter (sym c.locked.ensures ∙ c.if-locked.true) in
+    let w = locked-within a.kind a.control.stored a.counter (sym c.locked.ensures ∙ c.if-not-locked.false) in
     let e : c.extent_of-extent.result ≡ extent_of a.kind (block_code a.control.stored) = rw c.block_code-code.ensures at c.extent_of-extent.ensures in
     omega (arith, w.high, ap (λ (x : Extent). x.to) e)
-
-pub returns-then-locked : goal.returns-then-locked
-unfolding data_reason
-returns-then-locked c = rw (c.if-control.true, ← c.locked.ensures, c.if-locked.true, ← c.block_code-code.ensures, ← c.extent_of-extent.ensures)
-
-pub returns-then-control : goal.returns-then-control
-unfolding data_reason
-returns-then-control c = rw (c.if-control.true, ← c.locked.ensures, c.if-locked.false)
-
-pub returns : goal.returns
-unfolding data_reason
-returns c = rw c.if-control.false

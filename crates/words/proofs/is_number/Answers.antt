@@ -4,7 +4,8 @@ use Rattle.words.proofs.WordLaws.{decimal-is, marked-is}
 use Rattle.words.proofs.is_number.Goals as goal
 
 pub returns-then-is_numeral : goal.returns-then-is_numeral
-returns-then-is_numeral c = decimal-is _ (sym c.is_numeral.ensures ∙ c.if-is_numeral.true)
+returns-then-is_numeral c = c.if-is_numeral.true ∙ decimal-is _ (sym c.is_numeral.ensures ∙ c.if-is_numeral.true)
 
-pub returns : goal.returns
-returns c = marked-is _ _ c.after_mark-from.ensures (sym c.is_numeral.ensures ∙ c.if-is_numeral.false) c.is_numeral-2.ensures
+pub returns-else-is_numeral : goal.returns-else-is_numeral
+returns-else-is_numeral c =
+    marked-is _ c.after_mark.ensures (sym c.is_numeral.ensures ∙ c.if-is_numeral.false) c.is_numeral-else-is_numeral.ensures

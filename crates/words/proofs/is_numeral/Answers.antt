@@ -1,24 +1,16 @@
--- `words::is_numeral` meets its contract: those before were digits, so the rest tells.
-use mathlib.Core.Path.{◌∙◌}
-use native.Mathlib.Numerals.{add-one}
-use borrow.Author.Rules.{rules}
-use Rattle.words.proofs.WordLaws.{numeral-none, numeral-some, digits-end, digit-fails, digit-holds}
+-- `words::is_numeral` meets its contract: each character is tested.
+use Rattle.std.proofs.Common.{nat_lt, rules, tests}
+use Rattle.std.proofs.lemmas.Iterator.Search.{all_from_yields_List}
+use Rattle.std.proofs.lemmas.Iterator.{YieldsList-from_slice}
+use Rattle.words.proofs.WordLaws.{numeral-none, numeral_found}
 use Rattle.words.proofs.is_numeral.Goals as goal
+use Rattle.words.specs.Words.{figure_of}
 
-pub returns-then-characters-eq0 : goal.returns-then-characters-eq0
-returns-then-characters-eq0 c = numeral-none _ _ c.if-characters-eq0.true
+pub returns-then-not-is_empty : goal.returns-then-not-is_empty
+returns-then-not-is_empty c =
+    numeral_found c.all.result c.args.base c.args.characters.now (search rules)
+    (all_from_yields_List (λ d. nat_lt (figure_of d) c.args.base) _ _ c.all.result c.all.ensures.ran
+    (YieldsList-from_slice c.args.characters.now cc) (λ d r q called. search (rules, tests)))
 
-pub loop-i-init : goal.loop-i-init
-loop-i-init c = (search rules, numeral-some _ _ c.if-characters-eq0.false)
-
-pub returns-then-digit-base : goal.returns-then-digit-base
-returns-then-digit-base c = digit-fails _ _ _ c.loop-i-test.true c.digit.ensures c.if-digit-base.true ∙ c.loop-i.invariant.1
-
-pub loop-i-preserved : goal.loop-i-preserved
-loop-i-preserved c = (
-  search rules,
-  rw add-one (digit-holds _ _ _ c.loop-i-test.true c.digit.ensures c.if-digit-base.false ∙ c.loop-i.invariant.1),
-)
-
-pub returns : goal.returns
-returns c = digits-end _ _ _ c.loop-i-test.false ∙ c.loop-i.invariant.1
+pub returns-else-not-is_empty : goal.returns-else-not-is_empty
+returns-else-not-is_empty c = rw c.if-not-is_empty.false (numeral-none c.args.base c.args.characters.now (search rules))

@@ -1,4 +1,4 @@
--- `words::number_of` meets its contract: each return is one row of the table.
+-- `words::number_of` meets its contract: each branch is one row of the table.
 use mathlib.Core.Path.{sym, ◌∙◌}
 use Rattle.words.proofs.WordLaws.{number-decimal, number-marked, number-neither}
 use Rattle.words.proofs.number_of.Goals as goal
@@ -10,19 +10,17 @@ pub returns-then-is_numeral-2 : goal.returns-then-is_numeral-2
 returns-then-is_numeral-2 c =
     number-marked
     _
-    _
-    c.after_mark-from.ensures
+    c.after_mark-marked.ensures
     (sym c.is_numeral.ensures ∙ c.if-is_numeral.false)
     _
-    (sym c.is_numeral-2.ensures ∙ c.if-is_numeral-2.true)
+    (sym c.is_numeral-else-is_numeral.ensures ∙ c.if-is_numeral-2.true)
     c.value-then-is_numeral-2.ensures
 
-pub returns : goal.returns
-returns c =
+pub returns-else-is_numeral-2 : goal.returns-else-is_numeral-2
+returns-else-is_numeral-2 c =
     number-neither
     _
-    _
-    c.after_mark-from.ensures
+    c.after_mark-marked.ensures
     (sym c.is_numeral.ensures ∙ c.if-is_numeral.false)
     _
-    (sym c.is_numeral-2.ensures ∙ c.if-is_numeral-2.false)
+    (sym c.is_numeral-else-is_numeral.ensures ∙ c.if-is_numeral-2.false)

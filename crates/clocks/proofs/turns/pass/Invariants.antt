@@ -1,5 +1,5 @@
 -- `clocks::turns::pass` meets its contract: whatever stood before it stands after each sample.
-use Prim.Native.Nat.{ℕ, ◌-◌, ◌≤◌}
+use Prim.Native.Nat.{ℕ}
 use mathlib.Core.Bool.{Bool}
 use mathlib.Core.List.{List}
 use mathlib.Core.Path.{◌≡◌}
@@ -15,7 +15,6 @@ use Rattle.clocks.proofs.turns.pass.Given as goal
 
 -- What the loop keeps of its promise before each sample.
 pub record Kept (sends : Bool) (base : ℕ) (es ls : List ℕ) (from : ℕ) (c : Clocks) (row : List ℕ) (i : ℕ) (c' : Clocks) (row' : List ℕ) : Type 0 where
-  pub onward : from ≤ i
   pub first : i ≡ from → c' ≡ c
   pub long : length row' ≡ length row
   pub stands : (s : State) (array row₀ : List ℕ) (first : ℕ) (t : Times) (d : Device) (m : Load) → sends ≡ sends_in d.talk.phase
@@ -25,7 +24,5 @@ abbrev pub invariant-loop-i : goal.invariant-loop-i
 invariant-loop-i l =
     (length l.elapsed ≡ length l.levels)
     × (length l.initial.row ≡ length l.levels)
+    × (l.at ≡ l.i)
     × Kept l.sends l.base l.elapsed l.levels l.from l.initial.now l.initial.row l.i l.now l.row
-
-abbrev pub decreases-loop-i : goal.decreases-loop-i
-decreases-loop-i l = length l.levels - l.i

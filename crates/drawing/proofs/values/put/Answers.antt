@@ -13,34 +13,15 @@ loop-i-init c =
       laid = record { laid = refl; next = omega arith };
       whole = refl;
       few = omega arith;
-      code = refl;
       below = omega arith;
       befores = search rules;
       afters = search rules;
     }
 
-pub bounds-before-i : goal.bounds-before-i
-bounds-before-i c = omega arith
-
-pub bounds-after-i : goal.bounds-after-i
-bounds-after-i c = omega arith
-
-pub bounds-after-i-in-loop-i : goal.bounds-after-i-in-loop-i
-bounds-after-i-in-loop-i c = omega arith
-
 pub put_value-at-requires : goal.put_value-at-requires
 put_value-at-requires c =
     let at = c.loop-i in
     omega (arith, same-room at.invariant, at.invariant.few, c.requires)
-
-pub overflow_add-code : goal.overflow_add-code
-overflow_add-code c = omega arith
-
-pub overflow_add-i : goal.overflow_add-i
-overflow_add-i c = omega arith
-
-pub loop-i-smaller : goal.loop-i-smaller
-loop-i-smaller c = omega arith
 
 pub loop-i-preserved : goal.loop-i-preserved
 loop-i-preserved c =

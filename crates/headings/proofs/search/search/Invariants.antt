@@ -4,8 +4,8 @@ use lib.ListN.{length}
 use Rattle.headings.proofs.Seeks.{Seeks}
 use Rattle.headings.proofs.search.search.Given as goal
 
-abbrev pub invariant-loop-stage : goal.invariant-loop-stage
-invariant-loop-stage l = Seeks l.dump l.code l.at l.line l.stage l.place l.is_its l.so_far
+abbrev pub invariant-tokens : goal.invariant-tokens
+invariant-tokens l = Seeks l.dump l.code l.walk l.is_its l.so_far
 
-abbrev pub decreases-loop-stage : goal.decreases-loop-stage
-decreases-loop-stage l = length l.dump - l.at
+abbrev pub decreases-tokens : goal.decreases-tokens
+decreases-tokens l = length l.dump - l.walk.at

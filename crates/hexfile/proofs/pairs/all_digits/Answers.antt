@@ -1,19 +1,13 @@
--- `hexfile::pairs::all_digits` meets its contract: the tests so far, and those that are left, are the tests of the whole.
-use mathlib.Core.Path.{refl, ◌∙◌}
-use native.Mathlib.Omega.{arith}
-use native.Mathlib.Numerals.{add-one}
-use borrow.Author.Rules.{rules}
-use Rattle.hexfile.proofs.WindowLaws.{all-turn, all_done}
+-- `hexfile::pairs::all_digits` meets its contract.
+use Rattle.std.proofs.Common.{◌&&◌, rules, tests, true}
+use Rattle.std.proofs.lemmas.Iterator.Consumers.{fold_from_yields_List}
+use Rattle.std.proofs.lemmas.Iterator.{YieldsList-from_slice}
+use Rattle.digits.specs.Digits.{is_digit}
+use Rattle.hexfile.proofs.WindowLaws.{digits_found}
 use Rattle.hexfile.proofs.pairs.all_digits.Goals as goal
 
-pub loop-i-init : goal.loop-i-init
-loop-i-init c = (search rules, refl)
-
-pub loop-i-preserved : goal.loop-i-preserved
-loop-i-preserved c =
-    let b = c.loop-i in
-    let text = c.args.text.now in
-    (omega arith, rw add-one (all-turn text b.all b.i (omega arith) c.is_digit-all.ensures ∙ b.invariant.1))
-
 pub returns : goal.returns
-returns c = all_done _ _ c.loop-i.i (omega arith) c.loop-i.invariant.1
+returns c =
+    digits_found c.fold.result c.args.text.now
+    (fold_from_yields_List _ (λ all d. all && is_digit d) true c.fold.result c.fold.ensures.ran
+    (YieldsList-from_slice c.args.text.now cc) (λ all d r q called. search (rules, tests)))

@@ -28,17 +28,17 @@ loop-from-preserved c =
       omega arith,
       omega arith,
       same_len_mid b.at (b.at + 8 - b.at) b.room c.join.new.room c.join.auto.room ∙ b.invariant.2,
-      decode-turn _ _ _ b.from b.at (omega arith) (omega arith) b.invariant.3 all.ensures c.if-all_digits.true c.join.ensures,
+      decode-turn _ _ _ b.from b.at (omega arith) (omega arith) b.invariant.3 all.ensures c.if-not-all_digits.false c.join.ensures,
     )
 
-pub shape_of-room-else-all_digits : goal.shape_of-room-else-all_digits
-shape_of-room-else-all_digits c = c.loop-from.invariant.2
+pub shape_of-room-then-not-all_digits : goal.shape_of-room-then-not-all_digits
+shape_of-room-then-not-all_digits c = c.loop-from.invariant.2
 
-pub returns-else-all_digits : goal.returns-else-all_digits
-returns-else-all_digits c =
+pub returns-then-not-all_digits : goal.returns-then-not-all_digits
+returns-then-not-all_digits c =
     let b = c.loop-from in
     let pre = c.requires in
-    decode-fails _ _ _ b.from pre.n_in_bounds c.if-n-ne0.false (omega arith) c.all_digits.ensures c.if-all_digits.false
+    decode-fails _ _ _ b.from pre.n_in_bounds c.if-n-ne0.false (omega arith) c.all_digits.ensures c.if-not-all_digits.true
 
 pub join_first-requires : goal.join_first-requires
 join_first-requires c =

@@ -1,5 +1,5 @@
 -- `hexfile::pairs::encode` meets its contract: what is left, laid over what stands there, gives what the whole gives.
-use Prim.Native.Nat.{◌+◌, ◌*◌, ◌-◌, ◌≤◌}
+use Prim.Native.Nat.{◌+◌, ◌*◌, ◌≤◌}
 use mathlib.Core.Path.{◌≡◌}
 use lib.ListN.{length, drop}
 use lib.Seq.{sets}
@@ -9,9 +9,5 @@ use Rattle.hexfile.proofs.pairs.encode.Given as goal
 abbrev pub invariant-loop-i : goal.invariant-loop-i
 invariant-loop-i l =
     (l.i ≤ length l.bytes)
-    × (l.to ≡ l.at + 2 * l.i)
     × (length l.out ≡ length l.initial.out)
-    × (sets l.out l.to (text_of (drop l.i l.bytes)) ≡ sets l.initial.out l.at (text_of l.bytes))
-
-abbrev pub decreases-loop-i : goal.decreases-loop-i
-decreases-loop-i l = length l.bytes - l.i
+    × (sets l.out (l.at + 2 * l.i) (text_of (drop l.i l.bytes)) ≡ sets l.initial.out l.at (text_of l.bytes))

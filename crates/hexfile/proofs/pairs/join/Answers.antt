@@ -11,11 +11,11 @@ use Rattle.hexfile.proofs.pairs.join.Goals as goal
 pub loop-i-init : goal.loop-i-init
 loop-i-init c = (search rules, refl, c.requires, refl)
 
-pub overflow_mul-room : goal.overflow_mul-room
-overflow_mul-room c = let h = value-small _ c.value.ensures in omega arith
+pub overflow_mul-byte : goal.overflow_mul-byte
+overflow_mul-byte c = let h = value-small _ c.value.ensures in omega arith
 
-pub overflow_add-room : goal.overflow_add-room
-overflow_add-room c =
+pub overflow_add-byte : goal.overflow_add-byte
+overflow_add-byte c =
     let h = value-small _ c.value.ensures in
     let k = value-small _ c.value-in-loop-i.ensures in
     omega arith

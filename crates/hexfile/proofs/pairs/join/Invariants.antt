@@ -1,5 +1,5 @@
 -- `hexfile::pairs::join` meets its contract: the bytes stored so far, and those that are left, are the bytes of the whole.
-use Prim.Native.Nat.{◌*◌, ◌-◌, ◌≤◌}
+use Prim.Native.Nat.{◌*◌, ◌≤◌}
 use mathlib.Core.List.{◌++◌}
 use mathlib.Core.Path.{◌≡◌}
 use lib.ListN.{length, take, drop}
@@ -12,6 +12,3 @@ invariant-loop-i l =
     × (length l.room ≡ length l.initial.room)
     × (length l.text ≡ 2 * length l.initial.room)
     × (take l.i l.room ++ values_of (drop (2 * l.i) l.text) ≡ values_of l.text)
-
-abbrev pub decreases-loop-i : goal.decreases-loop-i
-decreases-loop-i l = length l.initial.room - l.i

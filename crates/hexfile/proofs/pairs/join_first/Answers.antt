@@ -23,17 +23,17 @@ join-requires c =
 pub returns-then-text-lt-WINDOW : goal.returns-then-text-lt-WINDOW
 returns-then-text-lt-WINDOW c = first-few _ _ _ c.requires.count_in_bounds c.join.ensures
 
-pub slice_bounds-join-end-2 : goal.slice_bounds-join-end-2
-slice_bounds-join-end-2 c = sym (length-take-le 16 c.args.text.now c.if-text-lt-WINDOW.false)
+pub slice_bounds-join-end-else-text-lt-WINDOW : goal.slice_bounds-join-end-else-text-lt-WINDOW
+slice_bounds-join-end-else-text-lt-WINDOW c = sym (length-take-le 16 c.args.text.now c.if-text-lt-WINDOW.false)
 
-pub slice_bounds-join-end-4 : goal.slice_bounds-join-end-4
-slice_bounds-join-end-4 c = sym (length-take-le 8 c.args.room.now c.requires.in_bounds)
+pub slice_bounds-join-end-else-text-lt-WINDOW-3 : goal.slice_bounds-join-end-else-text-lt-WINDOW-3
+slice_bounds-join-end-else-text-lt-WINDOW-3 c = sym (length-take-le 8 c.args.room.now c.requires.in_bounds)
 
-pub join-requires-2 : goal.join-requires-2
-join-requires-2 c =
+pub join-requires-else-text-lt-WINDOW : goal.join-requires-else-text-lt-WINDOW
+join-requires-else-text-lt-WINDOW c =
     let args = c.args in
     let pre = c.requires in
     rw (length-take-le 16 args.text.now (omega arith), length-take-le 8 args.room.now pre.in_bounds)
 
-pub returns : goal.returns
-returns c = first-window c.args.text.now c.args.room.now _ c.if-text-lt-WINDOW.false c.requires.count_bound c.join-2.ensures
+pub returns-else-text-lt-WINDOW : goal.returns-else-text-lt-WINDOW
+returns-else-text-lt-WINDOW c = first-window c.args.text.now c.args.room.now _ c.if-text-lt-WINDOW.false c.requires.count_bound c.join-else-text-lt-WINDOW.ensures

@@ -1,5 +1,5 @@
 -- `hexfile::sums::sums_to_zero` meets its contract: the noughts behind the bytes add nothing.
-use Prim.Native.Nat.{◌+◌, ◌-◌, ◌%◌, ◌≤◌, ◌<◌}
+use Prim.Native.Nat.{◌+◌, ◌%◌, ◌≤◌, ◌<◌}
 use mathlib.Core.Path.{◌≡◌}
 use lib.ListN.{length, take}
 use Rattle.hexfile.specs.Pairs.{sum_of}
@@ -11,6 +11,3 @@ invariant-loop-i l =
     × (l.count + 8 ≤ length l.room)
     × (l.total < 256)
     × (l.total ≡ sum_of (take l.i l.room) % 256)
-
-abbrev pub decreases-loop-i : goal.decreases-loop-i
-decreases-loop-i l = l.count + 8 - l.i

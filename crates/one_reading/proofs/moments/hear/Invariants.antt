@@ -5,8 +5,8 @@ use lib.ListN.{length}
 use Rattle.one_reading.proofs.Hearing.{Hearing}
 use Rattle.one_reading.proofs.moments.hear.Given as goal
 
-abbrev pub invariant-loop-begins : goal.invariant-loop-begins
-invariant-loop-begins l = Hearing l.dump l.from l.level l.at l.line l.mode l.heard l.levels
+abbrev pub invariant-loop-word : goal.invariant-loop-word
+invariant-loop-word l = Hearing l.dump l.fn.track.mark.at l.fn.track.mark.level l.at l.line l.mode l.heard l.level
 
-abbrev pub decreases-loop-begins : goal.decreases-loop-begins
-decreases-loop-begins l = length l.dump - l.at
+abbrev pub decreases-loop-word : goal.decreases-loop-word
+decreases-loop-word l = length l.dump - l.at

@@ -1,15 +1,14 @@
 -- `one_reading::quick::pass` meets its contract. The loop's invariant: no fault was met, and the rows are filled up to the place reached.
 -- Assumes nothing.
-use mathlib.Core.Path.{refl}
 use native.Mathlib.Omega.{arith}
 use Rattle.glances.proofs.SeenPast.{seen_value}
 use Rattle.judging.proofs.PlainLaws.{passing-small, passing-inside, passing-further}
 use Rattle.pieces.proofs.Plain.{level-plain}
-use Rattle.one_reading.proofs.Running.{running-first, running-value, running-time, passes_on}
+use Rattle.one_reading.proofs.Running.{running-first, running-value, running-time}
 use Rattle.one_reading.proofs.quick.pass.Goals as goal
 
 pub loop-at-init : goal.loop-at-init
-loop-at-init c = let p = c.requires in running-first _ _ _ _ _ p.going p.from_value p.from_bound p.bound p.count_in_bounds p.elapsed_len
+loop-at-init c = let p = c.requires in running-first _ _ _ _ _ p.going p.from_bound p.bound p.count_in_bounds p.elapsed_len
 
 pub overflow_sub-dump : goal.overflow_sub-dump
 overflow_sub-dump c = omega (arith, c.loop-at.invariant.passing.kept.inside)
@@ -33,15 +32,15 @@ loop-at-smaller-then-first-eq-ZERO_OR_ONE c = omega (arith, c.past_blank-past.en
 pub loop-at-preserved-then-first-eq-ZERO_OR_ONE : goal.loop-at-preserved-then-first-eq-ZERO_OR_ONE
 loop-at-preserved-then-first-eq-ZERO_OR_ONE c =
     running-value _ _ _ _ _ _ _ _ _ _ _ _ _ _ _ c.loop-at.invariant _ _ _ _ _ _ (seen_value _ _ _ _ c.past_blank-past.ensures _ c.marks_at-marks.ensures c.if-marks-eq0.false)
-    c.if-first-eq-ZERO_OR_ONE.true c.requires.from_value_2 (level-plain _ c.if-first-eq-ZERO_OR_ONE.true) c.lay-level.ensures.value c.lay-level.ensures.upper_bound
+    c.if-first-eq-ZERO_OR_ONE.true c.requires.from_value (level-plain _ c.if-first-eq-ZERO_OR_ONE.true) c.lay-level.ensures.value c.lay-level.ensures.upper_bound
 
-pub time_at-seen-requires : goal.time_at-seen-requires
-time_at-seen-requires c =
+pub time_at-requires : goal.time_at-requires
+time_at-requires c =
     record { from_in_bounds = omega (arith, c.past_blank-past.ensures.near, c.if-dump-at-lt-FAR.false); from_value = c.if-first-ne-HASH.false }
 
 pub overflow_add-at-else-first-eq-ZERO_OR_ONE : goal.overflow_add-at-else-first-eq-ZERO_OR_ONE
 overflow_add-at-else-first-eq-ZERO_OR_ONE c =
-    let f = passing-inside _ _ _ _ _ _ _ _ c.loop-at.invariant.passing _ _ c.past_blank-past.ensures c.time_at-seen.ensures c.if-now-time.false in
+    let f = passing-inside _ _ _ _ _ _ _ _ c.loop-at.invariant.passing _ _ c.past_blank-past.ensures c.in-Some.ensures c.if-now-time.false in
     omega (arith, f, c.well_formed.0.1)
 
 pub overflow_add-samples : goal.overflow_add-samples
@@ -51,63 +50,9 @@ overflow_add-samples c =
 
 pub loop-at-smaller : goal.loop-at-smaller
 loop-at-smaller c =
-    let f = passing-further _ _ _ _ _ _ _ _ c.loop-at.invariant.passing _ _ c.past_blank-past.ensures c.time_at-seen.ensures c.if-now-time.false in
+    let f = passing-further _ _ _ _ _ _ _ _ c.loop-at.invariant.passing _ _ c.past_blank-past.ensures c.in-Some.ensures c.if-now-time.false in
     omega (arith, f, c.if-dump-at-lt-FAR.false)
 
 pub loop-at-preserved : goal.loop-at-preserved
 loop-at-preserved c =
-    running-time _ _ _ _ _ _ _ _ _ _ _ _ _ _ _ c.loop-at.invariant _ _ c.past_blank-past.ensures c.time_at-seen.ensures c.if-now-time.false c.if-now-time-gt-MOST_ELAPSED.false c.if-i-levels.false
-
-pub shape_of-elapsed-then-dump-at-lt-FAR : goal.shape_of-elapsed-then-dump-at-lt-FAR
-shape_of-elapsed-then-dump-at-lt-FAR c = c.loop-at.invariant.wide
-
-pub shape_of-levels-then-dump-at-lt-FAR : goal.shape_of-levels-then-dump-at-lt-FAR
-shape_of-levels-then-dump-at-lt-FAR c = c.loop-at.invariant.long
-
-pub returns-then-dump-at-lt-FAR : goal.returns-then-dump-at-lt-FAR
-returns-then-dump-at-lt-FAR c = passes_on _ _ _ _ _ _ _ _ _ _ _ _ _ _ _ c.loop-at.invariant _ refl
-
-pub shape_of-elapsed-then-marks-eq0 : goal.shape_of-elapsed-then-marks-eq0
-shape_of-elapsed-then-marks-eq0 c = c.loop-at.invariant.wide
-
-pub shape_of-levels-then-marks-eq0 : goal.shape_of-levels-then-marks-eq0
-shape_of-levels-then-marks-eq0 c = c.loop-at.invariant.long
-
-pub returns-then-marks-eq0 : goal.returns-then-marks-eq0
-returns-then-marks-eq0 c = passes_on _ _ _ _ _ _ _ _ _ _ _ _ _ _ _ c.loop-at.invariant _ refl
-
-pub shape_of-elapsed-then-first-ne-HASH : goal.shape_of-elapsed-then-first-ne-HASH
-shape_of-elapsed-then-first-ne-HASH c = c.loop-at.invariant.wide
-
-pub shape_of-levels-then-first-ne-HASH : goal.shape_of-levels-then-first-ne-HASH
-shape_of-levels-then-first-ne-HASH c = c.loop-at.invariant.long
-
-pub returns-then-first-ne-HASH : goal.returns-then-first-ne-HASH
-returns-then-first-ne-HASH c = passes_on _ _ _ _ _ _ _ _ _ _ _ _ _ _ _ c.loop-at.invariant _ refl
-
-pub shape_of-elapsed-then-i-levels : goal.shape_of-elapsed-then-i-levels
-shape_of-elapsed-then-i-levels c = c.loop-at.invariant.wide
-
-pub shape_of-levels-then-i-levels : goal.shape_of-levels-then-i-levels
-shape_of-levels-then-i-levels c = c.loop-at.invariant.long
-
-pub returns-then-i-levels : goal.returns-then-i-levels
-returns-then-i-levels c = passes_on _ _ _ _ _ _ _ _ _ _ _ _ _ _ _ c.loop-at.invariant _ refl
-
-pub shape_of-elapsed-then-now-time : goal.shape_of-elapsed-then-now-time
-shape_of-elapsed-then-now-time c = c.loop-at.invariant.wide
-
-pub shape_of-levels-then-now-time : goal.shape_of-levels-then-now-time
-shape_of-levels-then-now-time c = c.loop-at.invariant.long
-
-pub returns-then-now-time : goal.returns-then-now-time
-returns-then-now-time c = passes_on _ _ _ _ _ _ _ _ _ _ _ _ _ _ _ c.loop-at.invariant _ refl
-
-pub shape_of-elapsed-then-now-time-gt-MOST_ELAPSED : goal.shape_of-elapsed-then-now-time-gt-MOST_ELAPSED
-shape_of-elapsed-then-now-time-gt-MOST_ELAPSED c = c.loop-at.invariant.wide
-
-pub shape_of-levels-then-now-time-gt-MOST_ELAPSED : goal.shape_of-levels-then-now-time-gt-MOST_ELAPSED
-shape_of-levels-then-now-time-gt-MOST_ELAPSED c = c.loop-at.invariant.long
-
-pub returns-then-now-time-gt-MOST_ELAPSED : goal.returns-then-now-time-gt-MOST_ELAPSED
-returns-then-now-time-gt-MOST_ELAPSED c = passes_on _ _ _ _ _ _ _ _ _ _ _ _ _ _ _ c.loop-at.invariant _ refl
+    running-time _ _ _ _ _ _ _ _ _ _ _ _ _ _ _ c.loop-at.invariant _ _ c.past_blank-past.ensures c.in-Some.ensures c.if-now-time.false c.if-now-time-gt-MOST_ELAPSED.false c.if-i-levels.false

@@ -3,7 +3,7 @@
 use native.Mathlib.Omega.{arith}
 use Rattle.glances.proofs.SeenPast.{seen_value, seen-time}
 use Rattle.pieces.proofs.Reading.{moving-first}
-use Rattle.pieces.proofs.Plain.{level-plain, plain-left, plain_value, plain-time}
+use Rattle.pieces.proofs.Plain.{level-plain, plain_value, plain-time}
 use Rattle.pieces.proofs.quick.take_plain.Goals as goal
 
 pub loop-at-init : goal.loop-at-init
@@ -11,9 +11,6 @@ loop-at-init c = moving-first _ _ _ c.requires.from_in_bounds
 
 pub overflow_sub-dump : goal.overflow_sub-dump
 overflow_sub-dump c = omega (arith, c.loop-at.invariant.inside)
-
-pub returns-then-dump-at-lt-FAR : goal.returns-then-dump-at-lt-FAR
-returns-then-dump-at-lt-FAR c = plain-left _ _ _ _ _ c.loop-at.invariant _ c.left.ensures
 
 pub past_blank-past-requires : goal.past_blank-past-requires
 past_blank-past-requires c = record { at_in_bounds = omega (arith, c.if-dump-at-lt-FAR.false); line_le_at = omega arith }
@@ -25,9 +22,6 @@ pub marks_at-marks-requires : goal.marks_at-marks-requires
 marks_at-marks-requires c =
     record { tabled = c.requires.tabled; from_in_bounds = omega (arith, c.past_blank-past.ensures.near, c.if-dump-at-lt-FAR.false); from_value = c.if-first-eq-ZERO_OR_ONE.true }
 
-pub returns-then-marks-eq0 : goal.returns-then-marks-eq0
-returns-then-marks-eq0 c = plain-left _ _ _ _ _ c.loop-at.invariant _ c.left-then-marks-eq0.ensures
-
 pub overflow_add-at : goal.overflow_add-at
 overflow_add-at c = omega (arith, c.past_blank-past.ensures.near, c.if-dump-at-lt-FAR.false, c.well_formed.0.1)
 
@@ -38,23 +32,17 @@ pub loop-at-preserved : goal.loop-at-preserved
 loop-at-preserved c =
     plain_value _ _ _ _ _ c.loop-at.invariant _ _ _ _
     (seen_value _ _ _ _ c.past_blank-past.ensures _ c.marks_at-marks.ensures c.if-marks-eq0.false) (level-plain _ c.if-first-eq-ZERO_OR_ONE.true)
-    c.lay-levels.ensures.value c.lay-levels.ensures.upper_bound
+    c.lay-level.ensures.value c.lay-level.ensures.upper_bound
 
-pub returns-then-first-ne-HASH : goal.returns-then-first-ne-HASH
-returns-then-first-ne-HASH c = plain-left _ _ _ _ _ c.loop-at.invariant _ c.left-then-first-ne-HASH.ensures
-
-pub time_at-seen-requires : goal.time_at-seen-requires
-time_at-seen-requires c =
+pub time_at-requires : goal.time_at-requires
+time_at-requires c =
     record { from_in_bounds = omega (arith, c.past_blank-past.ensures.near, c.if-dump-at-lt-FAR.false); from_value = c.if-first-ne-HASH.false }
-
-pub returns-then-seen-eq0 : goal.returns-then-seen-eq0
-returns-then-seen-eq0 c = plain-left _ _ _ _ _ c.loop-at.invariant _ c.left-then-seen-eq0.ensures
 
 pub overflow_add-result : goal.overflow_add-result
 overflow_add-result c =
-    let s = seen-time _ _ _ _ c.past_blank-past.ensures _ c.time_at-seen.ensures c.if-seen-eq0.false in
+    let s = seen-time _ _ _ _ c.past_blank-past.ensures _ c.in-Some.ensures in
     omega (arith, s.word.inside, c.well_formed.0.1)
 
 pub returns-else-first-eq-ZERO_OR_ONE : goal.returns-else-first-eq-ZERO_OR_ONE
 returns-else-first-eq-ZERO_OR_ONE c =
-    plain-time _ _ _ _ _ c.loop-at.invariant _ _ _ (seen-time _ _ _ _ c.past_blank-past.ensures _ c.time_at-seen.ensures c.if-seen-eq0.false)
+    plain-time _ _ _ _ _ c.loop-at.invariant _ _ _ (seen-time _ _ _ _ c.past_blank-past.ensures _ c.in-Some.ensures)

@@ -7,7 +7,7 @@ use Rattle.pieces.proofs.Reading.{Moving}
 use Rattle.pieces.proofs.quick.take_plain.Given as goal
 
 abbrev pub invariant-loop-at : goal.invariant-loop-at
-invariant-loop-at l = Moving l.dump l.from l.level l.at 0 Between l.levels
+invariant-loop-at l = Moving l.dump l.from l.before l.at 0 Between l.level
 
 abbrev pub decreases-loop-at : goal.decreases-loop-at
 decreases-loop-at l = length l.dump - l.at

@@ -11,7 +11,7 @@ abbrev pub invariant-loop-i : goal.invariant-loop-i
 invariant-loop-i l =
     (length l.elapsed ≡ length l.levels)
     × (length l.initial.row ≡ length l.levels)
-    × Goes_on l.kind l.select l.base l.elapsed l.levels l.array (record { times = l.initial.times; device = l.initial.device; now = l.initial.now; load = l.initial.load; at = l.initial.i }) l.initial.row (record { times = l.times; device = l.device; now = l.now; load = l.load; at = l.i }) l.row
+    × Goes_on l.kind l.select l.base l.elapsed l.levels l.array l.fn.first l.initial.row (record { times = l.times; device = l.device; now = l.now; load = l.load; at = l.i }) l.row
     × (l.empty ≡ true → l.load ≡ empty_load)
 
 abbrev pub decreases-loop-i : goal.decreases-loop-i

@@ -10,11 +10,11 @@ unfolding byte_step
 returns-then-expects_data c =
     let d = c.args.s.device in
     let t = sym c.expects_data.ensures ∙ c.if-expects_data.true in
-    rw (c.kept-load.ensures, c.data-device.ensures, c.taken-takes.ensures, c.kind_of-kind.ensures, byte-is-data _ _ d _ t, kept_by_lem _ d _ _ true t)
+    rw (c.kept.ensures, c.«data».ensures, c.taken-takes.ensures, c.kind_of-kind.ensures, byte-is-data _ _ d _ t, kept_by_lem _ d _ _ true t)
 
 pub returns : goal.returns
 unfolding byte_step
 returns c =
     let d = c.args.s.device in
     let t = sym c.expects_data.ensures ∙ c.if-expects_data.false in
-    rw (c.byte-device.ensures, c.kind_of-kind.ensures, kept_by_lem _ d _ _ false t)
+    rw (c.byte.ensures, c.kind_of-kind.ensures, kept_by_lem _ d _ _ false t)

@@ -1,29 +1,15 @@
--- `sections::steps::is_printable` meets its contract: what is left of the word tells. Assumes nothing.
-use mathlib.Core.Path.{refl, ◌∙◌}
-use native.Mathlib.Omega.{arith}
+-- `sections::steps::is_printable` meets its contract. Assumes nothing.
+use mathlib.Core.Path.{◌∙◌}
 use borrow.Author.Rules.{rules}
-use Rattle.sections.proofs.SectionLaws.{seen-turn, low-tells, high-tells, all_seen}
+use borrow.Author.Tests.{tests}
+use Rattle.std.specs.Char.{is_ascii_graphic}
+use Rattle.std.proofs.lemmas.Iterator.{YieldsList-from_slice}
+use Rattle.std.proofs.lemmas.Iterator.Search.{all_from_yields_List}
+use Rattle.sections.proofs.SectionLaws.{printable-all}
 use Rattle.sections.proofs.steps.is_printable.Goals as goal
-
-pub loop-i-init : goal.loop-i-init
-loop-i-init c = (search rules, refl)
-
-pub returns-then-character-lt-FIRST_PRINTED : goal.returns-then-character-lt-FIRST_PRINTED
-returns-then-character-lt-FIRST_PRINTED c =
-    let b = c.loop-i in
-    low-tells _ b.i (omega arith) c.if-character-lt-FIRST_PRINTED.true ∙ b.invariant.1
-
-pub returns-then-character-gt-LAST_PRINTED : goal.returns-then-character-gt-LAST_PRINTED
-returns-then-character-gt-LAST_PRINTED c =
-    let b = c.loop-i in
-    high-tells _ b.i (omega arith) c.if-character-lt-FIRST_PRINTED.false c.if-character-gt-LAST_PRINTED.true ∙ b.invariant.1
-
-pub loop-i-preserved : goal.loop-i-preserved
-loop-i-preserved c =
-    let b = c.loop-i in
-    (omega arith, seen-turn _ b.i (omega arith) c.if-character-lt-FIRST_PRINTED.false c.if-character-gt-LAST_PRINTED.false ∙ b.invariant.1)
 
 pub returns : goal.returns
 returns c =
-    let b = c.loop-i in
-    all_seen _ b.i (omega arith) ∙ b.invariant.1
+    let word = c.args.word.now in
+    let all = all_from_yields_List is_ascii_graphic _ _ c.all.result c.all.ensures.ran (YieldsList-from_slice word cc) (λ x b q k. search (rules, tests)) in
+    all ∙ printable-all word

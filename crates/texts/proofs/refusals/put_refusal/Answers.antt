@@ -22,4 +22,4 @@ shape_of-out c =
 
 pub returns : goal.returns
 returns c =
-    refusal-starts _ _ _ _ _ _ _ c.put_decimal-first.ensures.lays c.put_decimal-first.ensures.upper_bound c.put_decimal-last.ensures.lays c.put_decimal-last.ensures.upper_bound c.requires
+    refusal-starts c.args.number _ _ _ _ _ _ (rw c.from.ensures at c.put_decimal-first.ensures.lays) c.put_decimal-first.ensures.upper_bound c.put_decimal-last.ensures.lays c.put_decimal-last.ensures.upper_bound c.requires

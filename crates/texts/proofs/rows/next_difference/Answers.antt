@@ -1,36 +1,25 @@
--- `texts::rows::next_difference` meets its contract: what is alike up to here and from here on is what is alike from the start.
-use mathlib.Core.Path.{refl, ◌∙◌}
-use native.Mathlib.Omega.{arith}
-use Rattle.texts.proofs.Alike.{first_ends, second-ends, differ-here, alike-here}
+-- `texts::rows::next_difference` meets its contract: a row is at its end, or what is left is alike as far as its pairs are equal.
+use Rattle.std.proofs.Common.{arith}
+use Rattle.texts.proofs.Alike.{alike_left, first_ends, second_ends}
 use Rattle.texts.proofs.rows.next_difference.Goals as goal
+use Rattle.texts.proofs.rows.next_difference.Goals.{then-from-before-via-then-from-before, then-from-before-via-else-from-before+then-from-after}
 
-pub loop-i-init : goal.loop-i-init
-loop-i-init c = refl
+pub returns-then-from-before : goal.returns-then-from-before
+returns-then-from-before c =
+    let args = c.args in
+    elim c.then-from-before.branch [
+      | then-from-before-via-then-from-before w ↦ first_ends args.before.now args.after.now args.from (omega arith)
+      | then-from-before-via-else-from-before+then-from-after w ↦ second_ends args.before.now args.after.now args.from (omega arith)
+    ]
 
-pub returns-then-after-i : goal.returns-then-after-i
-returns-then-after-i c = second-ends _ _ _ c.if-after-i.true ∙ c.loop-i.invariant
-
-pub bounds-before-i : goal.bounds-before-i
-bounds-before-i c = omega arith
-
-pub bounds-after-i : goal.bounds-after-i
-bounds-after-i c = omega arith
-
-pub returns-then-before-i : goal.returns-then-before-i
-returns-then-before-i c =
-    let at = c.loop-i in
-    differ-here _ _ _ c.loop-i-test.true c.if-after-i.false c.if-before-i.true ∙ at.invariant
-
-pub overflow_add-i : goal.overflow_add-i
-overflow_add-i c = omega arith
-
-pub loop-i-smaller : goal.loop-i-smaller
-loop-i-smaller c = omega arith
-
-pub loop-i-preserved : goal.loop-i-preserved
-loop-i-preserved c =
-    let at = c.loop-i in
-    alike-here _ _ _ c.loop-i-test.true c.if-after-i.false c.if-before-i.false ∙ at.invariant
+pub overflow_add-result : goal.overflow_add-result
+overflow_add-result c =
+    let args = c.args in
+    let h = alike_left args.before.now args.after.now args.from c.alike.result c.alike.ensures in
+    omega arith
 
 pub returns : goal.returns
-returns c = first_ends _ _ _ c.loop-i-test.false ∙ c.loop-i.invariant
+returns c =
+    let args = c.args in
+    let h = alike_left args.before.now args.after.now args.from c.alike.result c.alike.ensures in
+    omega arith

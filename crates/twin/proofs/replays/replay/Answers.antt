@@ -3,17 +3,17 @@ use Rattle.ground.proofs.Verdicts.{is-accepted, is-refused}
 use Rattle.refusals.proofs.Laws.{rows-equal}
 use Rattle.twin.proofs.replays.replay.Goals as goal
 
-pub run-next-requires : goal.run-next-requires
-run-next-requires c =
+pub run-state-requires : goal.run-state-requires
+run-state-requires c =
     let a = c.args in
-    let e = is-accepted c.judge-reply.result _ _ c.judge-reply.ensures c.in-Accepted.is in
+    let e = is-accepted c.judge-reply.result _ _ c.judge-reply.ensures c.in-Ok.is in
     let h = rows-equal a.state a.elapsed.now a.levels.now a.array.now a.answers.now _ e in
     record { elapsed_len = h.0; row_len = h.1 }
 
-pub returns-in-Accepted : goal.returns-in-Accepted
-returns-in-Accepted c =
-    let e = is-accepted c.judge-reply.result _ _ c.judge-reply.ensures c.in-Accepted.is in
-    let ran = c.run-next.ensures in
+pub returns-in-Ok : goal.returns-in-Ok
+returns-in-Ok c =
+    let e = is-accepted c.judge-reply.result _ _ c.judge-reply.ensures c.in-Ok.is in
+    let ran = c.run-state.ensures in
     record {
       reply = c.judge-reply.ensures;
       state = rw e ran.state;
@@ -21,9 +21,9 @@ returns-in-Accepted c =
       said = rw e ran.said;
     }
 
-pub returns-in-Refused : goal.returns-in-Refused
-returns-in-Refused c =
-    let e = is-refused c.judge-reply.result _ _ _ c.judge-reply.ensures c.in-Refused.is in
+pub returns-in-Err : goal.returns-in-Err
+returns-in-Err c =
+    let e = is-refused c.judge-reply.result _ _ c.judge-reply.ensures c.in-Err.is in
     record {
       reply = c.judge-reply.ensures;
       state = rw e;

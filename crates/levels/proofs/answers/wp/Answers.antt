@@ -1,6 +1,0 @@
--- `levels::answers::wp` meets its contract. The check would find this by itself; written out, it names what a wrong bit breaks.
-use mathlib.Core.Path.{refl}
-use Rattle.levels.proofs.answers.wp.Goals as goal
-
-pub returns : goal.returns
-returns c = refl

@@ -1,9 +1,0 @@
--- `show::printing::put_list` ends.
-use Rattle.std.proofs.Common.{◌-◌, length}
-use Rattle.show.proofs.printing.put_list.Given as goal
-
-abbrev pub invariant-loop-i : goal.invariant-loop-i
-invariant-loop-i g l = Unit {0}
-
-abbrev pub decreases-loop-i : goal.decreases-loop-i
-decreases-loop-i g l = length l.entries - l.i

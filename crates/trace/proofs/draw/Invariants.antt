@@ -1,9 +1,0 @@
--- `trace::draw` ends.
-use Rattle.std.proofs.Common.{length, ◌-◌}
-use Rattle.trace.proofs.draw.Given as goal
-
-abbrev pub invariant-loop-i : goal.invariant-loop-i
-invariant-loop-i g l = Unit {0}
-
-abbrev pub decreases-loop-i : goal.decreases-loop-i
-decreases-loop-i g l = length l.levels - l.i

@@ -1,9 +1,0 @@
--- `trace::draw_more` ends.
-use Rattle.std.proofs.Common.{◌-◌}
-use Rattle.trace.proofs.draw_more.Given as goal
-
-abbrev pub invariant-loop-done : goal.invariant-loop-done
-invariant-loop-done g l = Unit {0}
-
-abbrev pub decreases-loop-done : goal.decreases-loop-done
-decreases-loop-done g l = l.times - l.done
