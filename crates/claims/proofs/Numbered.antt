@@ -84,7 +84,7 @@ capture-numbered s es ls array =
 
 -- An image that is read: what a line says, and what the lines come to.
 abbrev Bad : Reading → Type 0
-Bad r = (k p : ℕ) → r ≡ bad k p → (1 ≤ k) × (k ≤ 23)
+Bad r = (k p : ℕ) → r ≡ bad k p → Number k
 
 bad-at : (k p : ℕ) → 1 ≤ k → k ≤ 23 → Bad (bad k p)
 bad-at k p h m j q e = let f : k ≡ j = cc in (omega arith, omega arith)
@@ -100,7 +100,7 @@ taken-not array k p e = absurd (apart k p 0 (sym (by (taken array) (bad k p) e))
     by r q e = λ i. mark (e i)
 
 abbrev Says-number : Heard → Type 0
-Says-number h = (k : ℕ) → h ≡ faulty k → (1 ≤ k) × (k ≤ 23)
+Says-number h = (k : ℕ) → h ≡ faulty k → Number k
 
 faulty-at : (k : ℕ) → 1 ≤ k → k ≤ 23 → Says-number (faulty k)
 faulty-at k h m j e = let f : k ≡ j = cc in (omega arith, omega arith)

@@ -10,7 +10,8 @@ use part::state::{Timers, Watchdog};
 // Where no timer runs any time would do; this one outlasts most captures.
 const LONG: u32 = 4_000_000_000;
 
-// The write time and the watchdog as they stand where `all` begins, a time in which neither ends.
+// The write time and the watchdog as they stand where `all` begins, a time in which neither ends. Whether it runs and what is left are
+// two fields, as in the state.
 #[derive(Clone, Copy)]
 pub struct Times {
     pub write: u32,

@@ -13,7 +13,7 @@ const BITS: u8 = 8;
 const BEFORE_LAST: u8 = 7;
 
 // What a clock changes, side by side: the time in which no timer ends, the lines, the frame, and the talk
-// but for its phase.
+// but for its phase. A held bit stays two fields, as in the state that these come from and go back to.
 #[derive(Clone, Copy)]
 pub struct Clocks {
     pub room: u32,

@@ -29,7 +29,7 @@ const PHASES: [Phase; 9] = [
     Phase::SendRegister,
 ];
 
-// The phase of a number; idle where there is none.
+// The phase of a number; idle where there is none. No `From`: neither side is this crate's type.
 #[tactic(auto, unfolding(crate::specs::Further::phase_of))]
 fn phase_of(number: u8) -> Phase
     ensures { result ≡ phase_of number }

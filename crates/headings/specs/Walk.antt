@@ -28,6 +28,7 @@ stage_behind Codes before = before
 stage_behind Names before = before
 stage_behind Defines before = Body
 
+-- At what place the token behind a step stands.
 abbrev pub place_behind : Step → Place
 place_behind (Moves stage place) = place
 place_behind Codes = VarName

@@ -38,7 +38,8 @@ pub struct Went {
     pub track: Option<Track>,
 }
 
-// Reads up to the first time line behind the definitions, if nothing is wrong up to there.
+// Reads up to the first time line behind the definitions, if nothing is wrong up to there. A walk of its own, and so is `moments::hear`:
+// beside what `pieces` keeps over the same tokens it keeps what was heard.
 fn first_time(dump: &[u8], table: &[u8], from: usize, on: usize) -> Option<Track>
     requires tabled { Tabled (vars_of dump.now) table.now }
     requires kept { Kept dump.now «from» on no_fault Between nothing_heard }

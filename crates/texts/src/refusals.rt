@@ -10,7 +10,7 @@ const SPACE: u8 = b' ';
 // The longest line: two numbers of at most 20 digits, a space and a line feed.
 pub const LONGEST: usize = 42;
 
-// Writes a refusal's line over the start of `out`, and answers its length.
+// Writes a refusal's line over the start of `out`, and answers its length. It takes any number, as it promises the line of each.
 pub fn put_refusal(number: u8, place: usize, out: &mut [u8]) -> usize
     requires { 42 ≤ length out.old }
     ensures { Starts (refusal_line number place) out.old result out.new }

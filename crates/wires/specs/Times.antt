@@ -26,5 +26,6 @@ abbrev pub digit_by : Bool → ℕ → Option ℕ
 digit_by true n = then_some (ltb n no_time) n
 digit_by false n = None
 
+-- The same of a character, whose value as a figure is the digit (2026-03, times: digits only).
 abbrev pub with_digit : ℕ → ℕ → Option ℕ
 with_digit so_far c = digit_by (within 0x30 0x39 c) (so_far * decimal_base + figure_of c)

@@ -83,6 +83,7 @@ abbrev pub part_given : Option (Bor (List ℕ)) → ℕ
 part_given None = part_named false []
 part_given (Some word) = part_named true word.now
 
+-- The byte of a word that may be there or not (request 2026-03, select, stored byte).
 abbrev pub byte_given : Option (Bor (List ℕ)) → ℕ
 byte_given None = byte_named false []
 byte_given (Some word) = byte_named true word.now
