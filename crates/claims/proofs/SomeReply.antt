@@ -28,7 +28,8 @@ use Rattle.dumps.specs.Faults.{dump_verdict}
 use Rattle.places.specs.Places.{part_after_all, places_of, open_verdict, report_by, array_by, laid_over}
 use Rattle.claims.specs.SomeReply.{SomeReply}
 use Rattle.claims.proofs.Starting.{starts_with}
-use Rattle.claims.proofs.Numbered.{power-numbered, judged-numbered, capture-numbered, image-numbered, write-numbered, listed-numbered, dump-numbered, open-numbered, report-numbered}
+use Rattle.image_claims.proofs.Numbered.{image-numbered}
+use Rattle.claims.proofs.Numbered.{power-numbered, judged-numbered, capture-numbered, write-numbered, listed-numbered, dump-numbered, open-numbered, report-numbered}
 
 -- The size that is said.
 abbrev size_for : Bool → ℕ → Option ℕ

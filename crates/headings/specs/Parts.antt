@@ -1,5 +1,5 @@
 -- What the functions over a dump's definitions promise those above.
-use Rattle.std.specs.Prelude.{ℕ, suc, ◌≤◌, ◌<◌, Bool, true, false, List, [], ◌∷◌, ◌≡◌, length, get_or, set, drop, Option, None, Some, IfSome, Result, Ok, Err}
+use Rattle.std.specs.Prelude.{ℕ, suc, ◌≤◌, ◌<◌, Bool, true, false, List, [], ◌∷◌, ◌≡◌, eqb, length, get_or, set, drop, Option, None, Some, IfSome, Result, Ok, Err}
 use Rattle.ground.specs.declared.Reason.{Reason}
 use Rattle.ground.specs.Verdict.{refused, number_of}
 use Rattle.sections.specs.declared.Place.TheVariants.{Between}
@@ -11,6 +11,7 @@ use Rattle.dumps.specs.Faults as dumped
 use Rattle.dumps.specs.Faults.{unheard, comes_first, verdict_by, faults_of, faults_from}
 use Rattle.headings.specs.declared.Heading.{Heading}
 use Rattle.headings.specs.declared.faults.Fault.{Fault}
+use Rattle.headings.specs.declared.faults.Numbered.{Numbered}
 
 -- A table of marks: one entry for each code of one character.
 pub record Tabled (vars : List Var) (table : List ℕ) : Type 0 where
@@ -36,6 +37,26 @@ fault_meant f = record { line = f.line; number = number_of f.reason }
 abbrev pub noted : Option Fault → List dumped.Fault → List dumped.Fault
 noted None fs = fs
 noted (Some f) fs = fault_meant f ∷ fs
+
+-- A fault of the code by its number, and what such a one means.
+abbrev pub numbered_of : Fault → Numbered
+numbered_of f = record { number = number_of f.reason; line = f.line }
+
+abbrev pub numbered_meant : Numbered → dumped.Fault
+numbered_meant f = record { line = f.line; number = f.number }
+
+-- The first of a fault and another, number 0 being none.
+abbrev pub numbers_joined_by : Bool → Bool → Bool → Numbered → Numbered → Numbered
+numbers_joined_by true free before f g = f
+numbers_joined_by false true before f g = g
+numbers_joined_by false false true f g = f
+numbers_joined_by false false false f g = g
+
+-- The same, by their numbers and lines (2026-03, in this order at one line, the earliest line first).
+unfoldable pub numbers_joined_of : Numbered → ℕ → ℕ → Numbered
+numbers_joined_of f number line =
+    numbers_joined_by (eqb number 0) (eqb f.number 0) (comes_first (numbered_meant f) (record { line = line; number = number })) f
+    (record { number = number; line = line })
 
 -- No fault at all.
 abbrev pub no_fault : Option Fault

@@ -12,7 +12,8 @@ ghost use Rattle.image.specs.Promises.{sized, ReadsImage, WritesImage};
 ghost use Rattle.image.specs.Parts.{array_size_by};
 
 use formats::{Intel, RecordForm};
-use ground::{Reason, Reply, kinds};
+pub use ground::Reply;
+use ground::{Reason, kinds};
 
 // The sizes of the smaller and the larger kind of part.
 const SMALL: usize = kinds::SMALL_SIZE as usize;

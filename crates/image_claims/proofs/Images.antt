@@ -45,7 +45,7 @@ write-then-read = write-from intel-trips lengths
 
 -- Through the door.
 pub door-trip : DoorTrip
-door-trip = door-from intel-trips lengths
+door-trip = door-from write-then-read
 
 -- The program's habits.
 pub tidies : Tidies

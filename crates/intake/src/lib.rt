@@ -78,6 +78,80 @@ fn read_header<R: Read>(input: &mut R) -> io::Result<Option<Header>> {
     Ok(further.map(|words| headers::longer(header, &words)))
 }
 
+// Fills a row of elapsed times, and answers whether the input has as many. Room for them as the input holds them is made here, so that it
+// is given back before the case is served.
+#[inline(never)]
+fn fill_times<R: Read>(input: &mut R, elapsed: &mut [u32]) -> io::Result<bool>
+    requires { length elapsed.old ≤ 65537 }
+{
+    let mut raw = [0; rooms::RAW];
+    let raw = &mut raw[..words::WORD * elapsed.len()];
+    if !reading::fill(input, raw)? {
+        return Ok(false);
+    }
+    words::decode(raw, elapsed);
+    Ok(true)
+}
+
+// Serves a case whose rows are read. Room for the answers is made here, so that it is not there while the times are read.
+#[inline(never)]
+fn serve_rows<E: From<io::Error>, F: FnOnce(&mut Case) -> Result<(), E>>(
+    header: Header,
+    array: &mut [u8],
+    elapsed: &[u32],
+    levels: &[u8],
+    serve: F,
+) -> Result<bool, E>
+    requires callable { F.IsAlwaysCallable serve }
+    requires array_length { length array.old ≡ header.array }
+    requires elapsed_length { length elapsed.now ≡ header.elapsed }
+    requires levels_length { length levels.now ≡ header.levels }
+    requires array_bound { header.array ≤ 16384 }
+    requires answers_bound { header.answers ≤ 65537 }
+    ensures { IfOk result (λ served. IsTrue served → (case : _) × (left : _) × F.post serve case (Ok tt) left) }
+{
+    let mut answers = [0; rooms::ROW];
+    let answers = &mut answers[..header.answers as usize];
+    serve(&mut Case {
+        header,
+        array,
+        elapsed,
+        levels,
+        answers,
+    })?;
+    Ok(true)
+}
+
+// The case whose header is read, as `read_case` says. Its rooms are large, so it has a frame of its own: where the input has no further case, none
+// of them is made.
+#[inline(never)]
+fn read_rows<R: Read, E: From<io::Error>, F: FnOnce(&mut Case) -> Result<(), E>>(
+    input: &mut R,
+    header: Header,
+    serve: F,
+) -> Result<bool, E>
+    requires { F.IsAlwaysCallable serve }
+    ensures { IfOk result (λ served. IsTrue served → (case : _) × (left : _) × F.post serve case (Ok tt) left) }
+{
+    let asked = rooms::asked(header);
+    if !rooms::fits(asked, ROOM) {
+        return Ok(false);
+    }
+    let mut array = [0; rooms::ARRAY];
+    let mut elapsed = [0; rooms::ROW];
+    let mut levels = [0; rooms::ROW];
+    let array = &mut array[..asked.array];
+    let elapsed = &mut elapsed[..asked.elapsed];
+    let levels = &mut levels[..asked.levels];
+    if !(reading::fill(input, array)?
+        && fill_times(input, elapsed)?
+        && reading::fill(input, levels)?)
+    {
+        return Ok(false);
+    }
+    serve_rows(header, array, elapsed, levels, serve)
+}
+
 // Reads the next case and has it served; false, and nothing is served, where the input ends before the case does, or where a row of it is
 // longer than docs/BENCH.md allows.
 pub fn read_case<R: Read, E: From<io::Error>, F: FnOnce(&mut Case) -> Result<(), E>>(
@@ -90,33 +164,5 @@ pub fn read_case<R: Read, E: From<io::Error>, F: FnOnce(&mut Case) -> Result<(),
     let Some(header) = read_header(input)? else {
         return Ok(false);
     };
-    let asked = rooms::asked(header);
-    if !rooms::fits(asked, ROOM) {
-        return Ok(false);
-    }
-    let mut array = [0; rooms::ARRAY];
-    let mut raw = [0; rooms::RAW];
-    let mut elapsed = [0; rooms::ROW];
-    let mut levels = [0; rooms::ROW];
-    let mut answers = [0; rooms::ROW];
-    let array = &mut array[..asked.array];
-    let raw = &mut raw[..asked.raw];
-    let elapsed = &mut elapsed[..asked.elapsed];
-    let levels = &mut levels[..asked.levels];
-    let answers = &mut answers[..asked.answers];
-    if !(reading::fill(input, array)?
-        && reading::fill(input, raw)?
-        && reading::fill(input, levels)?)
-    {
-        return Ok(false);
-    }
-    words::decode(raw, elapsed);
-    serve(&mut Case {
-        header,
-        array,
-        elapsed,
-        levels,
-        answers,
-    })?;
-    Ok(true)
+    read_rows(input, header, serve)
 }

@@ -2,12 +2,12 @@
 #![tactic(auto)]
 
 ghost use Rattle.std.specs.Prelude.{◌≡◌, min};
-ghost use Rattle.ground.specs.Verdict.{meant};
+ghost use Rattle.ground.specs.Verdict.{refused, meant};
 ghost use Rattle.form.specs.Words.{bytes_of};
 ghost use Rattle.replies.specs.Reply.{opening_of, closing_of, Closes, EndsReply};
 
 use form::words;
-use ground::{Refusal, Reply};
+use ground::Reply;
 use part::state::State;
 
 // A place fits a word in every reply that can come; were it wider, it would count as the largest word.
@@ -17,13 +17,20 @@ fn capped(place: usize) -> u32
     u32::try_from(place).unwrap_or(u32::MAX)
 }
 
+#[tactic(auto, unfolding(crate::specs::Reply::opening_of))]
+fn refusal_words(number: u8, place: usize) -> [u32; 2]
+    ensures { result ≡ opening_of (refused number place) }
+{
+    [u32::from(number), capped(place)]
+}
+
 #[tactic(auto, unfolding(ground::specs::Verdict::meant, crate::specs::Reply::opening_of))]
 fn opening_words(reply: Reply) -> [u32; 2]
     ensures { result ≡ opening_of (meant reply) }
 {
     match reply {
         Ok(count) => [0, capped(count)],
-        Err(Refusal { reason, place }) => [u32::from(u8::from(reason)), capped(place)],
+        Err(refusal) => refusal_words(refusal.reason.into(), refusal.place),
     }
 }
 
@@ -33,6 +40,15 @@ pub fn opening(reply: Reply) -> [u8; 8]
 {
     let mut bytes = [0; 8];
     words::encode(&opening_words(reply), &mut bytes);
+    bytes
+}
+
+// The same of a refusal by its number, whatever it is.
+pub fn refusal_opening(number: u8, place: usize) -> [u8; 8]
+    ensures { result ≡ bytes_of (opening_of (refused number place)) }
+{
+    let mut bytes = [0; 8];
+    words::encode(&refusal_words(number, place), &mut bytes);
     bytes
 }
 

@@ -4,9 +4,11 @@
 
 mod changes;
 mod entry;
+mod figures;
 mod printing;
 mod reasons;
 
+use figures::Decimal;
 use intake::Case;
 use intake::stops::{Stop, put_end};
 use part::state::State;
@@ -14,7 +16,9 @@ use refusals::verdicts;
 use std::io;
 use std::io::Write;
 
-// One replay of several: its transfers, then what it changed in the array; the state that it left is handed back.
+// One replay of several: its transfers, then what it changed in the array; the state that it left is handed back. Its rooms are large, so it
+// has a frame of its own: a refused case needs none of them.
+#[inline(never)]
 fn show_once<W: Write>(
     out: &mut W,
     case: &mut Case,
@@ -29,7 +33,8 @@ fn show_once<W: Write>(
     let count = listed.reply?;
     let times = case.header.times;
     if times > 1 {
-        writeln!(out, "replay {turn} of {times}")?;
+        let turn = Decimal(u64::from(turn));
+        writeln!(out, "replay {turn} of {}", Decimal(u64::from(times)))?;
     }
     printing::put_list(out, &entries, count)?;
     changes::put_changes(out, before, case.array)?;
@@ -42,7 +47,9 @@ fn show_once<W: Write>(
 // length than its levels, a replay refuses it, and so it is refused here.
 fn show_case<W: Write>(out: &mut W, case: &mut Case) -> Result<(), Stop> {
     let mut state = intake::start(case.header)?;
-    verdicts::judge(state, case.elapsed, case.levels, case.array, case.answers)?;
+    if case.answers.len() != case.levels.len() {
+        verdicts::judge(state, case.elapsed, case.levels, case.array, case.answers)?;
+    }
     for turn in 1..=case.header.times.max(1) {
         state = show_once(out, case, turn, state)?;
     }

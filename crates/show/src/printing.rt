@@ -1,9 +1,11 @@
 // The text that is printed: a line for what happens at a sample, a line for each byte with what was
 // answered in its ninth clock.
 use crate::entry::Entry;
+use crate::figures::Decimal;
 use crate::reasons::{Bits, CutOff, Withheld};
 use std::io::Write;
 use std::{fmt, io};
+use texts::numbers;
 use transfers::tags;
 
 // Where the text stands: at a line's beginning, in the line of a sample, or in that of a byte whose
@@ -35,18 +37,18 @@ impl fmt::Display for Event {
     }
 }
 
-// What a byte is for.
-fn role(byte: Entry) -> &'static str {
+// What a byte is for, in a column of its own.
+fn role(byte: Entry) -> &'static [u8; 28] {
     match byte.tag() {
-        tags::SLAVE if byte.value() % 2 == 1 => "slave byte, read",
-        tags::SLAVE => "slave byte, write",
-        tags::HIGH => "address, high",
-        tags::LOW => "address, low",
-        tags::DATA => "data",
-        tags::REGISTER => "for the control register",
-        tags::SENT => "sent by the part",
-        tags::REGISTER_SENT => "register, sent by the part",
-        _ => "not heard",
+        tags::SLAVE if byte.value() % 2 == 1 => b"slave byte, read            ",
+        tags::SLAVE => b"slave byte, write           ",
+        tags::HIGH => b"address, high               ",
+        tags::LOW => b"address, low                ",
+        tags::DATA => b"data                        ",
+        tags::REGISTER => b"for the control register    ",
+        tags::SENT => b"sent by the part            ",
+        tags::REGISTER_SENT => b"register, sent by the part  ",
+        _ => b"not heard                   ",
     }
 }
 
@@ -74,22 +76,24 @@ fn put_event<W: Write>(out: &mut W, stands: Stands, event: Entry) -> io::Result<
     let place = event.place();
     match stands {
         Stands::InByte(_) if event.tag() == tags::CYCLE_ENDS => {
-            write!(out, "(write cycle ends at sample {place}) ")?;
+            write!(out, "(write cycle ends at sample {}) ", Decimal(place))?;
             return Ok(stands);
         }
         Stands::InSample(at) if at == place => write!(out, ", {}", Event(event))?,
         _ => {
             put_end(out, stands)?;
-            write!(out, "sample {place}: {}", Event(event))?;
+            write!(out, "sample {}: {}", Decimal(place), Event(event))?;
         }
     }
     Ok(Stands::InSample(place))
 }
 
-// A byte at its eighth fall.
+// A byte at its eighth fall. Each write goes to the system by itself, so they are few.
 fn put_byte<W: Write>(out: &mut W, stands: Stands, byte: Entry) -> io::Result<Stands> {
     put_end(out, stands)?;
-    write!(out, "  {:02X}  {:28}", byte.value(), role(byte))?;
+    let [high, low] = numbers::byte(byte.value());
+    out.write_all(&[b' ', b' ', high, low, b' ', b' '])?;
+    out.write_all(role(byte))?;
     Ok(Stands::InByte(byte))
 }
 

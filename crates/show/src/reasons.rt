@@ -1,6 +1,7 @@
 // What an entry's number tells beside its tag and value: why an acknowledge was withheld, and what a
 // stop cut off. Codes and pages are printed as the list has them.
 use crate::entry::Entry;
+use crate::figures::{Address, Decimal};
 use part::state::PAGE;
 use std::fmt;
 use transfers::tags;
@@ -19,10 +20,10 @@ impl fmt::Display for Withheld {
             tags::SECOND_BYTE => write!(f, ": second register byte"),
             note => {
                 let (first, last) = entry.pages();
-                let code = note % tags::LOCKED;
-                let from = u16::from(first) * PAGE;
-                let to = u16::from(last) * PAGE + (PAGE - 1);
-                write!(f, ": page locked, code {code} locks {from:04X} to {to:04X}")
+                let code = Decimal(u64::from(note % tags::LOCKED));
+                let from = Address(u16::from(first) * PAGE);
+                let to = Address(u16::from(last) * PAGE + (PAGE - 1));
+                write!(f, ": page locked, code {code} locks {from} to {to}")
             }
         }
     }
@@ -58,7 +59,7 @@ impl fmt::Display for Bits {
         let bits = self.0;
         match bits {
             1 => write!(f, " after 1 bit of a byte"),
-            2..=7 => write!(f, " after {bits} bits of a byte"),
+            2..=7 => write!(f, " after {} bits of a byte", Decimal(u64::from(bits))),
             _ => Ok(()),
         }
     }

@@ -3,7 +3,7 @@
 #![tactic(auto)]
 
 ghost use Rattle.std.specs.Prelude.{◌≡◌, length};
-ghost use Rattle.ground.specs.Verdict.{meant};
+ghost use Rattle.ground.specs.Verdict.{refused, meant};
 ghost use Rattle.telling.specs.Told.{told, ReadsThrough, WritesThrough};
 
 use ground::Reply;
@@ -16,23 +16,24 @@ pub const DONE: u8 = 1;
 
 pub const NOT_DONE: u8 = 0;
 
-// A reply as two numbers: 0 and the count, or the refusal's number and its place.
-#[tactic(auto, unfolding(ground::specs::Verdict::meant))]
-fn numbers_of(reply: Reply) -> [u64; NUMBERS]
-    ensures { result ≡ told (meant reply) }
+// Writes a refusal as its number and its place. It takes any number, as it promises the row of each.
+pub fn tell_refusal(row: &mut [u64], number: u8, place: usize)
+    requires { length row.old ≡ 2 }
+    ensures { row.new ≡ told (refused number place) }
 {
-    match reply {
-        Ok(count) => [0, count as u64],
-        Err(refusal) => [u64::from(u8::from(refusal.reason)), refusal.place as u64],
-    }
+    row.copy_from_slice(&[u64::from(number), place as u64]);
 }
 
-// Writes a reply as two numbers.
+// Writes a reply as two numbers: 0 and the count, or the refusal's number and its place.
+#[tactic(auto, unfolding(ground::specs::Verdict::meant))]
 pub fn tell(row: &mut [u64], reply: Reply)
     requires { length row.old ≡ 2 }
     ensures { row.new ≡ told (meant reply) }
 {
-    row.copy_from_slice(&numbers_of(reply));
+    match reply {
+        Ok(count) => row.copy_from_slice(&[0, count as u64]),
+        Err(refusal) => tell_refusal(row, refusal.reason.into(), refusal.place),
+    }
 }
 
 // Reads an image into the array of a part. The row's length is tested here and below: a closure round the operation would say no more

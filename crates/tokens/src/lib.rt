@@ -28,10 +28,12 @@ pub struct Past {
 pub fn is_blank(character: u8) -> bool
     ensures { result ≡ blank character }
 {
-    matches!(
-        character,
-        SPACE | lines::LINE_FEED | lines::CARRIAGE_RETURN | TAB
-    )
+    // Nearly every character lies above the blanks, so that one test does for it.
+    character <= SPACE
+        && matches!(
+            character,
+            SPACE | lines::LINE_FEED | lines::CARRIAGE_RETURN | TAB
+        )
 }
 
 // Past the blanks from `at` on.
