@@ -14,9 +14,9 @@ use Rattle.captures.specs.Once.{capture_verdict, Captures}
 
 module _ (part select stored : ℕ) (es ls array row : List ℕ) (u : Replayed) (up : PowersUp part select stored u) where
   -- A refused power-up is the whole reply.
-  pub captures-none : (k : Refusal) → u.reply ≡ Err k → Captures part select stored es ls array row (Err k) array row
+  pub captures_none : (k : Refusal) → u.reply ≡ Err k → Captures part select stored es ls array row (Err k) array row
   unfolding capture_verdict
-  captures-none k e =
+  captures_none k e =
       let v = is-refused u.reply (power_of part select stored) k up.reply e in
       record { reply = ap meant (sym e) ∙ up.reply ∙ rw v; kept = rw v; said = rw v }
 

@@ -6,6 +6,7 @@ ghost use Rattle.captures.specs.Once.{Captures};
 use ground::Reply;
 
 // Replays a capture from power-up on; a refused power-up is the reply, and no sample is looked at.
+#[tactic(auto, using(crate::proofs::Captured::captures_none))]
 pub fn capture(
     part: u16,
     select: u8,

@@ -38,10 +38,11 @@ abbrev pub noted : Option Fault → List dumped.Fault → List dumped.Fault
 noted None fs = fs
 noted (Some f) fs = fault_meant f ∷ fs
 
--- A fault of the code by its number, and what such a one means.
+-- A fault of the code by its number.
 abbrev pub numbered_of : Fault → Numbered
 numbered_of f = record { number = number_of f.reason; line = f.line }
 
+-- What a fault by its number means in the words of the dump.
 abbrev pub numbered_meant : Numbered → dumped.Fault
 numbered_meant f = record { line = f.line; number = f.number }
 

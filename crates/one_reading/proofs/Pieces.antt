@@ -77,7 +77,7 @@ module _ (dump : List ℕ) (from : Option Track) (elapsed₀ levels₀ : List �
       reading-repeat h k =
           let g = reading-going in
           record {
-            filling = filling-far dump (mark_of from) elapsed₀ levels₀ (Some t.mark) i elapsed levels filling-here t.mark refl h k;
+            filling = filling-far dump (mark_of from) elapsed₀ levels₀ (Some t.mark) i elapsed levels filling-here t.mark refl _ refl h k;
             sound = record { kept = g.kept; same = g.same; begun = g.begun };
           }
 
@@ -108,7 +108,7 @@ module _ (dump : List ℕ) (from : Option Track) (elapsed₀ levels₀ : List �
       rw (f, e)
       (record {
         filling =
-            filling-near dump (mark_of from) elapsed₀ levels₀ (Some t.mark) i elapsed levels r.filling t.mark refl c.moved _ h n x.moves
+            filling-near dump (mark_of from) elapsed₀ levels₀ (Some t.mark) i elapsed levels r.filling t.mark refl _ refl h c.moved _ n x.moves
             (sym (mark-back c (behind_by t.mark.time c.moved.level c.moved.next)));
         sound = sound-behind c t.mark.time c.moved.level c.moved.next x.goes;
       })

@@ -175,5 +175,5 @@ module _ (dump : List ℕ) (t : Track) (count : ℕ) (elapsed₀ levels₀ : Lis
           long = omega arith;
           even = omega arith;
           filling = λ n x y f.
-              filling-near dump n x y (open_at at time left level) i elapsed levels (r.filling n x y f) _ refl _ _ h r.near time-moves refl;
+              filling-near dump n x y (open_at at time left level) i elapsed levels (r.filling n x y f) _ refl _ refl h _ _ r.near time-moves refl;
         }

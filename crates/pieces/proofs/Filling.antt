@@ -105,19 +105,24 @@ module _ (dump : List ℕ) (from : Option Mark) (elapsed₀ levels₀ : List ℕ
           low = λ n. l (f.low n);
         }
 
-    -- A repeat, or a moment's own sample.
-    pub filling-far : (m : Mark) → mark ≡ Some m → i < length levels → most_elapsed < m.left
-        → Filling dump from elapsed₀ levels₀ (Some (record { at = m.at; time = m.time; left = m.left - most_elapsed; level = m.level }))
-        (i + 1) (set elapsed i most_elapsed) (set levels i m.level)
-    filling-far m e h k =
-        filling-turn (record { elapsed = most_elapsed; level = m.level }) _ h (ap (left_from dump) e ∙ left_far dump m k) (λ n. rw e at n)
+    -- A repeat, or a moment's own sample, given what is left of the gap as any number that equals it.
+    module _ (m : Mark) (e : mark ≡ Some m) (gap : ℕ) (g : gap ≡ m.left) (h : i < length levels) where
+      pub filling-far : most_elapsed < gap
+          → Filling dump from elapsed₀ levels₀ (Some (record { at = m.at; time = m.time; left = gap - most_elapsed; level = m.level }))
+          (i + 1) (set elapsed i most_elapsed) (set levels i m.level)
+      filling-far k =
+          rw g
+          (filling-turn (record { elapsed = most_elapsed; level = m.level }) _ h (ap (left_from dump) e ∙ left_far dump m (omega arith))
+          (λ n. rw e at n))
 
-    pub filling-near : (m : Mark) → mark ≡ Some m → (moved : Moved) (next : Option Mark) → i < length levels → m.left ≤ most_elapsed
-        → Moves dump m.at m.level moved → next ≡ behind_by m.time moved.level moved.next
-        → Filling dump from elapsed₀ levels₀ next (i + 1) (set elapsed i m.left) (set levels i moved.level)
-    filling-near m e moved next h k v f =
-        filling-turn (record { elapsed = m.left; level = moved.level }) next h (rw f (ap (left_from dump) e ∙ left_near dump m moved k v))
-        (λ n. let low : Low (Some m) = rw e at n in rw f (low-behind m.time moved.level moved.next (v.low low)))
+      pub filling-near : (moved : Moved) (next : Option Mark) → gap ≤ most_elapsed → Moves dump m.at m.level moved
+          → next ≡ behind_by m.time moved.level moved.next
+          → Filling dump from elapsed₀ levels₀ next (i + 1) (set elapsed i gap) (set levels i moved.level)
+      filling-near moved next k v f =
+          rw g
+          (filling-turn (record { elapsed = m.left; level = moved.level }) next h
+          (rw f (ap (left_from dump) e ∙ left_near dump m moved (omega arith) v))
+          (λ n. let low : Low (Some m) = rw e at n in rw f (low-behind m.time moved.level moved.next (v.low low))))
 
     -- The rows are full, or no sample is left.
     filled : i ≡ min (length (left_from dump from)) (length levels₀)

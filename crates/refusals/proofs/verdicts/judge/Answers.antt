@@ -2,6 +2,8 @@
 use Rattle.std.proofs.lemmas.Result.{err_from_is_err_and}
 use mathlib.Core.Path.{refl, sym, ◌∙◌}
 use borrow.Author.Tests.{eq-eqb, ne_eqb}
+use native.Mathlib.Omega.{arith}
+use lib.ListN.{length}
 use Rattle.ground.specs.Verdict.{meant}
 use Rattle.refusals.specs.Refusals.{judged_of}
 use Rattle.refusals.proofs.Laws.{rows-stop, rows-go, rows-one}
@@ -20,7 +22,7 @@ returns-then-answers-levels c =
     let a = c.args in
     let r = c.rows in
     let e = rows-go a.s a.elapsed.now a.levels.now a.array.now r.result _ r.ensures _ _ c.in_ok-rows.was in
-    rw c.into.ensures (sym (e ∙ rw (ne_eqb _ _ c.if-answers-levels.true)))
+    rw c.into.ensures (sym (e ∙ rw (ne_eqb (length a.answers.now) (length a.levels.now) (λ same. omega (arith, same, c.if-answers-levels.true)))))
 
 pub samples-requires : goal.samples-requires
 samples-requires c =
@@ -34,4 +36,4 @@ returns c =
     let a = c.args in
     let r = c.rows in
     let e = rows-go a.s a.elapsed.now a.levels.now a.array.now r.result _ r.ensures _ _ c.in_ok-rows.was in
-    c.samples.ensures ∙ sym (e ∙ rw (eq-eqb _ _ c.if-answers-levels.false))
+    c.samples.ensures ∙ sym (e ∙ rw (eq-eqb (length a.answers.now) (length a.levels.now) (omega (arith, c.if-answers-levels.false))))
