@@ -105,7 +105,7 @@ module _ (dump : List ℕ) (from : Option Mark) (elapsed₀ levels₀ : List ℕ
           low = λ n. l (f.low n);
         }
 
-    -- A repeat, or a moment's own sample, given what is left of the gap as any number that equals it.
+    -- A repeat, or a moment's own sample; `gap` is any number equal to what is left of the gap.
     module _ (m : Mark) (e : mark ≡ Some m) (gap : ℕ) (g : gap ≡ m.left) (h : i < length levels) where
       pub filling-far : most_elapsed < gap
           → Filling dump from elapsed₀ levels₀ (Some (record { at = m.at; time = m.time; left = gap - most_elapsed; level = m.level }))

@@ -1,6 +1,6 @@
 -- `changes::value` meets its contract. Assumes nothing.
 use mathlib.Core.Bool.{◌&&◌}
-use mathlib.Core.Path.{◌≡◌, ◌∙◌}
+use mathlib.Core.Path.{◌≡◌}
 use borrow.Author.Rules.{rules}
 use lib.Dec.{ltb}
 use Rattle.ground.proofs.Rows.{tail-whole}

@@ -21,10 +21,10 @@ loop-i-preserved c =
     elim c.if-here-gt-MOST_ELAPSED.branch [
       | then-here-gt-MOST_ELAPSED w ↦
           rw (w.mark-is, w.elapsed-is, w.levels-is)
-          (filling-far _ _ _ _ _ _ _ _ c.loop-i.invariant _ c.in-Some.is _ (omega arith) h (omega (arith, w.if-here-gt-MOST_ELAPSED.true)))
+          (filling-far _ _ _ _ _ _ _ _ c.loop-i.invariant _ c.in-Some.is _ (omega arith) h (omega arith))
       | else-here-gt-MOST_ELAPSED w ↦
           rw (w.mark-is, w.elapsed-is, w.levels-is)
-          (filling-near _ _ _ _ _ _ _ _ c.loop-i.invariant _ c.in-Some.is _ (omega arith) h _ _ (omega (arith, w.if-here-gt-MOST_ELAPSED.false)) w.take_values-moved.ensures w.behind-mark.ensures)
+          (filling-near _ _ _ _ _ _ _ _ c.loop-i.invariant _ c.in-Some.is _ (omega arith) h _ _ (omega arith) w.take_values-moved.ensures w.behind-mark.ensures)
     ]
 
 pub returns : goal.returns

@@ -13,7 +13,7 @@ use Rattle.forms.specs.declared.Says.{Says}
 use Rattle.intel.specs.Intel.{intel}
 use Rattle.formats.proofs.IntelRecordForm.hear.Goals as goal
 
--- The length that is handed on is the line's.
+-- What is heard of `handed` characters is what the line of `n` says, first or not, where the two numbers are equal.
 handed-on : (first : Bool) (text cells cells' : List ℕ) (n handed : ℕ) (r : Result Says Reason) → handed ≡ n
     → HearsLine intel true (take handed text) cells r cells' → HearsLine intel first (take n text) cells r cells'
 unfolding says_of

@@ -22,7 +22,7 @@ returns-then-answers-levels c =
     let a = c.args in
     let r = c.rows in
     let e = rows-go a.s a.elapsed.now a.levels.now a.array.now r.result _ r.ensures _ _ c.in_ok-rows.was in
-    rw c.into.ensures (sym (e ∙ rw (ne_eqb (length a.answers.now) (length a.levels.now) (λ same. omega (arith, same, c.if-answers-levels.true)))))
+    rw c.into.ensures (sym (e ∙ rw (ne_eqb (length a.answers.now) (length a.levels.now) (λ same. omega arith))))
 
 pub samples-requires : goal.samples-requires
 samples-requires c =
@@ -36,4 +36,4 @@ returns c =
     let a = c.args in
     let r = c.rows in
     let e = rows-go a.s a.elapsed.now a.levels.now a.array.now r.result _ r.ensures _ _ c.in_ok-rows.was in
-    c.samples.ensures ∙ sym (e ∙ rw (eq-eqb (length a.answers.now) (length a.levels.now) (omega (arith, c.if-answers-levels.false))))
+    c.samples.ensures ∙ sym (e ∙ rw (eq-eqb (length a.answers.now) (length a.levels.now) (omega arith)))
